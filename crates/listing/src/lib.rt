@@ -61,7 +61,7 @@ fn print_extents(slots: [Slot; 64], starts: [Lsn; 64], n: usize, tail: Lsn)
 }
 
 // The image as open finds it, or the number of the first rule that it breaks.
-fn print_image(image: &[u8]) {
+pub fn print_image(image: &[u8]) {
     let opening = scan::read_image(image);
     let number = opening.number;
     if number != refusals::DONE {

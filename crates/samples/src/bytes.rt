@@ -1,4 +1,4 @@
-// Samples 1, 2 and 11: bytes as the proved writers write them, and a clean mark that is none.
+// Samples 1, 2, 11 and 12: bytes as the proved writers write them, a clean mark that is none, and the listing of a fresh image.
 use crate::print;
 use metadata::Metadata;
 use metadata::Slot;
@@ -44,4 +44,16 @@ pub fn clean_two() {
         made.number as u64,
         found.number as u64,
     );
+}
+
+// What loglist prints of a fresh image.
+pub fn listed() {
+    let mut image = [0u8; 212];
+    let made = Log::create(&mut image, 64, 2);
+    print::two(
+        b"12 create, head; then its listing",
+        made.number as u64,
+        made.log.head.0 as u64,
+    );
+    listing::print_image(&image);
 }

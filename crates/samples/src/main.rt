@@ -1,5 +1,5 @@
 // Document 01's samples at E = 64, S = 2, run on the proved calls. A line is the sample's number, what was done, and what came out
-// of it; sample 12 is the program loglist.
+// of it: a call's number, then one field of the state that it left.
 mod bytes;
 mod print;
 mod runs;
@@ -16,4 +16,5 @@ fn main() {
     runs::tail();
     runs::last_lsn();
     bytes::clean_two();
+    bytes::listed();
 }
