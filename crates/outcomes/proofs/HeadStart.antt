@@ -15,9 +15,9 @@ use Rattle.slots.proofs.Free.{free-kept}
 use Rattle.steps.specs.declared.Log.{Log}
 use Rattle.steps.specs.State.{slotsIn, startsIn, lastStart, inRoll, hasH}
 use Rattle.steps.specs.Head.{leaving, headedLog}
-use Rattle.steps.proofs.Facts.{Well, Listed, Headed, Placed, Pending, Roll}
+use Rattle.steps.proofs.Facts.{Well, Listed, Headed, Placed, Pending, Roll, differ}
 use Rattle.steps.proofs.Fronts.{Heads, some-stay}
-use Rattle.outcomes.proofs.Rest.{not-both, no-roll}
+use Rattle.outcomes.proofs.Rest.{no-roll}
 use Rattle.outcomes.proofs.Modes.{mode-before, mode-after}
 use Rattle.outcomes.proofs.Relisted.{slots-many, starts-many, slots-listed, starts-listed, relisted, reunused, remade}
 use Rattle.outcomes.proofs.Leaves.{left-first, left-second, left-last, below-drop}
@@ -91,7 +91,7 @@ module _ (g : Log) (len h : ℕ) (a : Heads g len h) (slots : length (g .slots) 
   headed-pending : Pending (headedLog g h)
   headed-pending = record {
     unlisted = λ k l b. gone k (sym (at-word (λ j. among j (take (leaving g h) (slotsIn g))) k 64 l) ∙ b);
-    none = λ e. absurd (not-both (hasH (headedLog g h .mode)) (mode-after (a .enters) hasH true refl) e);
+    none = λ e. absurd (differ (hasH (headedLog g h .mode)) (mode-after (a .enters) hasH true refl) e);
   }
 
   headed-roll : Roll (headedLog g h)

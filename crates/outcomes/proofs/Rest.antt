@@ -1,19 +1,14 @@
 -- A state with no pending slot, and a state with no roll.
-use Prim.Native.Nat.{ℕ}
 use mathlib.Core.Path.{_≡_}
-use mathlib.Core.Bool.{Bool, true, false}
-use native.Mathlib.Omega.{arith}
+use mathlib.Core.Bool.{false}
 use Rattle.slots.specs.Word.{bitAt}
 use Rattle.slots.proofs.Words.{none-at}
 use Rattle.steps.specs.declared.Log.{Log}
 use Rattle.steps.specs.State.{inRoll}
-use Rattle.steps.proofs.Facts.{Pending, Resting, Roll}
-
-pub not-both : (t : Bool) → t ≡ true → t ≡ false → ⊥
-not-both t a b = let z : _≡_ {A = ℕ} 0 1 = cc in omega arith
+use Rattle.steps.proofs.Facts.{Pending, Resting, Roll, differ}
 
 pub none-pending : (g : Log) → g .pending ≡ 0 → Pending g
-none-pending g e = record { unlisted = λ k h b. absurd (not-both (bitAt 0 k) (rw e at b) (none-at k)); none = λ n. e }
+none-pending g e = record { unlisted = λ k h b. absurd (differ (bitAt 0 k) (rw e at b) (none-at k)); none = λ n. e }
 
 pub no-roll : (g : Log) → inRoll (g .mode) ≡ false → Resting g → Roll g
-no-roll g i r = record { rolling = λ e. absurd (not-both (inRoll (g .mode)) e i); resting = λ e. r }
+no-roll g i r = record { rolling = λ e. absurd (differ (inRoll (g .mode)) e i); resting = λ e. r }

@@ -13,18 +13,19 @@ use Rattle.slots.specs.Word.{bitAt, isFree}
 use Rattle.slots.proofs.Front.{leading-le}
 use Rattle.slots.proofs.Order.{rising-above, rising-drop, rising-snoc}
 use Rattle.slots.proofs.Members.{among-append, among-drop, distinct-drop, distinct-snoc}
+use Rattle.slots.proofs.Another.{below-snoc}
 use Rattle.slots.proofs.Words.{none-at}
 use Rattle.slots.proofs.Free.{Free, free-kept, free-says}
 use Rattle.table.specs.declared.Step.the-variants.{RollList}
 use Rattle.steps.specs.declared.Log.{Log}
 use Rattle.steps.specs.State.{slotsIn, startsIn, lastStart, inRoll, hasH}
 use Rattle.steps.specs.Roll.{ended, rolledLog}
-use Rattle.steps.proofs.Facts.{Well, Listed, Headed, Placed, Pending, Rolling}
+use Rattle.steps.proofs.Facts.{Well, Listed, Headed, Placed, Pending, Rolling, differ}
 use Rattle.steps.proofs.Calls.{Entered}
-use Rattle.outcomes.proofs.Rest.{not-both, no-roll}
+use Rattle.outcomes.proofs.Rest.{no-roll}
 use Rattle.outcomes.proofs.Modes.{mode-keeps, mode-before, mode-after}
 use Rattle.outcomes.proofs.Relisted.{slots-many, starts-many, slots-listed, starts-listed, relisted, reunused, remade}
-use Rattle.outcomes.proofs.Leaves.{left-first, left-second, below-drop, below-snoc}
+use Rattle.outcomes.proofs.Leaves.{left-first, left-second, below-drop}
 
 snoc-not-among : (k x : ℕ) (xs : List ℕ) → among k xs ≡ false → (k ≡ x → ⊥) → among k (xs ++ (x ∷ [])) ≡ false
 unfolding among
@@ -136,7 +137,7 @@ module _ (g : Log) (len : ℕ) (n : Entered RollList g len) (slots : length (g .
       still : (k : ℕ) → k < 64 → bitAt (g .pending) k ≡ true → isFree (g .s) (slotsIn (rolledLog g)) 0 0 k ≡ true
       still k h b =
           let f = free-says (g .s) (slotsIn g) 0 0 k (w .pending .unlisted k h b) in
-          let other : k ≡ g .«roll_slot» .0 → ⊥ = λ e. not-both (bitAt (g .pending) (g .«roll_slot» .0)) (rw e at b) (held .not-pending) in
+          let other : k ≡ g .«roll_slot» .0 → ⊥ = λ e. differ (bitAt (g .pending) (g .«roll_slot» .0)) (rw e at b) (held .not-pending) in
           free-kept (g .s) (slotsIn (rolledLog g)) 0 0 k
           (record {
             below = f .below;

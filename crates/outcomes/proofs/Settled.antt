@@ -1,4 +1,4 @@
--- Every done call leaves a well-formed state, whose arrays have 64 entries again.
+-- Every done call leaves a well-formed state, whose arrays have 64 entries again. Read and counts hand back the state that they took.
 use Prim.Native.Nat.{ℕ}
 use mathlib.Core.Path.{_≡_, refl, sym, _∙_}
 use mathlib.Core.Bool.{true}

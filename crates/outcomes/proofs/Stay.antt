@@ -18,11 +18,11 @@ use Rattle.steps.specs.Well.{same}
 use Rattle.steps.specs.Outcome.{modeAfter}
 use Rattle.steps.specs.Plain.{unpendedLog, closedLog}
 use Rattle.steps.specs.Roll.{lowestFree, begunLog}
-use Rattle.steps.proofs.Facts.{Well, Placed, Pending, Roll}
+use Rattle.steps.proofs.Facts.{Well, Placed, Pending, Roll, differ}
 use Rattle.steps.proofs.Calls.{Entered}
 use Rattle.steps.proofs.Appends.{Appends}
 use Rattle.steps.proofs.Rolls.{Begins}
-use Rattle.outcomes.proofs.Rest.{not-both, none-pending, no-roll}
+use Rattle.outcomes.proofs.Rest.{none-pending, no-roll}
 use Rattle.outcomes.proofs.Modes.{mode-keeps, mode-before, mode-after}
 
 -- ---- the state with another mode, tail, write place, last tail LSN, pending word and roll
@@ -155,5 +155,5 @@ begun-well g len p b =
         tight = b .tight;
         left = b .left;
       };
-      resting = λ e. absurd (not-both (inRoll m) rolls e);
+      resting = λ e. absurd (differ (inRoll m) rolls e);
     })

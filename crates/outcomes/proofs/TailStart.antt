@@ -1,8 +1,8 @@
 -- Tail start leaves a well-formed state: what stays of the list is a front of it, and the write place is where the walk to t ends.
-use Prim.Native.Nat.{ℕ, zero, suc, _+_, _-_, _≤_, _<_}
+use Prim.Native.Nat.{ℕ, _+_, _-_, _≤_, _<_}
 use mathlib.Core.Path.{_≡_, refl, ap, _∙_}
 use mathlib.Core.Bool.{false, _&&_}
-use mathlib.Core.List.{List, [], _∷_}
+use mathlib.Core.List.{List, []}
 use native.Mathlib.Omega.{arith}
 use borrow.Author.Tests.{ltb-true, leb-true, eqb-true}
 use lib.Dec.{ltb, leb, eqb}
@@ -10,22 +10,21 @@ use lib.ListN.{length, getD, take}
 use lib.Seq.{getD-take, length-take-le, take-take}
 use Rattle.refusals.proofs.First.{none-refuses, must-holds}
 use Rattle.numbers.proofs.Tests.{both}
-use Rattle.numbers.proofs.Parts.{part-length}
 use Rattle.extent.specs.Extent.{payloads, sizes}
-use Rattle.extent.proofs.Count.{nine-each, walk-within}
+use Rattle.extent.proofs.Count.{nine-each}
 use Rattle.slots.specs.Entries.{slotNos}
-use Rattle.slots.proofs.Front.{leading-le, leading-below, leading-all}
+use Rattle.slots.proofs.Front.{leading-below, leading-all}
 use Rattle.slots.proofs.Order.{rising-above, rising-take}
 use Rattle.slots.proofs.Members.{distinct-take}
 use Rattle.table.specs.declared.Step.the-variants.{TailStart}
 use Rattle.steps.specs.declared.Log.{Log}
-use Rattle.steps.specs.State.{slotsIn, startsIn, lastStart, slotPlace, inRoll, hasH}
-use Rattle.steps.specs.Place.{upTo, slotOf, startOf, extentAt, walkedTo}
+use Rattle.steps.specs.State.{slotsIn, startsIn, lastStart, inRoll, hasH}
+use Rattle.steps.specs.Place.{upTo, startOf, extentAt, walkedTo}
 use Rattle.steps.specs.Tail.{tailStartNumber, withdrawnLog}
-use Rattle.steps.proofs.Sizes.{slot-inside}
-use Rattle.steps.proofs.Facts.{Well, Listed, Headed, Marked, Placed, listed-below}
+use Rattle.steps.proofs.Facts.{Well, Listed, Headed, Marked, Placed}
 use Rattle.steps.proofs.Calls.{Entered, entered}
 use Rattle.steps.proofs.Fronts.{below-front}
+use Rattle.steps.proofs.Reaches.{up-to-le, place-inside}
 use Rattle.outcomes.proofs.Rest.{none-pending, no-roll}
 use Rattle.outcomes.proofs.Modes.{mode-before, mode-after}
 use Rattle.outcomes.proofs.Relisted.{slots-many, starts-many, starts-listed, relisted, reunused, remade}
@@ -54,13 +53,7 @@ tails g l t e =
       reaches = eqb-true _ _ (must-holds (eqb (walkedTo g l t .lsn .0) t) 14 (q₃ .1));
     }
 
--- ---- a walk that ends early takes no more bytes
-
-sizes-take : (k : ℕ) (ps : List (List ℕ)) → sizes (take k ps) ≤ sizes ps
-unfolding sizes
-sizes-take zero ps = omega arith
-sizes-take (suc k) [] = omega arith
-sizes-take (suc k) (p ∷ ps) = omega (arith, sizes-take k ps)
+-- ---- a walk of no record ends where it begins
 
 no-sizes : (ps : List (List ℕ)) → ps ≡ [] → 5 + sizes ps ≡ 5
 unfolding sizes
@@ -82,14 +75,11 @@ module _ (g : Log) (l : List ℕ) (t : ℕ) (a : Tails g l t) (slots : length (g
   some : 0 < upTo g t
   some = leading-all t 0 (startsIn g) (w .listed .rises) 0 (omega (arith, counted, w .listed .low)) (omega (arith, w .headed .first, a .low))
 
-  within : upTo g t ≤ g .n
-  within = omega (arith, leading-le t (startsIn g), counted)
-
   many : length (take (upTo g t) (slotsIn g)) ≡ upTo g t
-  many = length-take-le (upTo g t) (slotsIn g) (omega (arith, within, slots-many g few slots))
+  many = length-take-le (upTo g t) (slotsIn g) (omega (arith, up-to-le g t, slots-many g few slots))
 
   each : length (take (upTo g t) (startsIn g)) ≡ upTo g t
-  each = length-take-le (upTo g t) (startsIn g) (omega (arith, within, counted))
+  each = length-take-le (upTo g t) (startsIn g) (omega (arith, up-to-le g t, counted))
 
   kept-starts : startsIn (withdrawnLog g l t) ≡ take (upTo g t) (startsIn g)
   kept-starts = starts-listed (withdrawnLog g l t) (take (upTo g t) (startsIn g)) refl each
@@ -110,14 +100,14 @@ module _ (g : Log) (l : List ℕ) (t : ℕ) (a : Tails g l t) (slots : length (g
       relisted (withdrawnLog g l t) (take (upTo g t) (slotsIn g)) (take (upTo g t) (startsIn g)) refl refl many each
       some
       (distinct-take (upTo g t) (slotsIn g) (f .apart))
-      (rw (take-take (upTo g t) (g .n) (slotNos (g .slots)) within) (below-front (g .s) (upTo g t) (g .n) (slotNos (g .slots)) within (f .below)))
+      (rw (take-take (upTo g t) (g .n) (slotNos (g .slots)) (up-to-le g t)) (below-front (g .s) (upTo g t) (g .n) (slotNos (g .slots)) (up-to-le g t) (f .below)))
       (rising-take 0 (startsIn g) (upTo g t) (f .rises))
 
   withdrawn-headed : Headed (withdrawnLog g l t)
   withdrawn-headed = record {
     first = omega (arith, start-kept 0 some, w .headed .first);
     high = a .low;
-    second = λ m. omega (arith, start-kept 1 m, w .headed .second (omega (arith, within)));
+    second = λ m. omega (arith, start-kept 1 m, w .headed .second (omega (arith, up-to-le g t)));
     last = omega (arith, last-is, from-start);
   }
 
@@ -128,19 +118,13 @@ module _ (g : Log) (l : List ℕ) (t : ℕ) (a : Tails g l t) (slots : length (g
     version = omega arith;
   }
 
-  -- the extent's bytes lie in the image, and the walk within them
-  long : length (extentAt g l t) ≡ g .e
-  long = part-length l (slotPlace (g .e) (slotOf g t)) (g .e) (omega (arith, a .enters .size, slot-inside (slotOf g t) (g .s) (g .e) (listed-below (a .enters .stands) (upTo g t - 1))))
-
   withdrawn-placed : Placed (withdrawnLog g l t)
   withdrawn-placed =
       let ps : List (List ℕ) = payloads (extentAt g l t) (startOf g t) (g .version .0) (g .last .0) in
       let walked : List (List ℕ) = take (t - startOf g t) ps in
-      let room : 5 ≤ length (extentAt g l t) = omega (arith, long, a .enters .stands .narrow .e-low) in
-      let inside = walk-within (extentAt g l t) 5 (startOf g t) (g .version .0) (g .last .0) room in
       record {
         low = omega arith;
-        high = omega (arith, sizes-take (t - startOf g t) ps, inside, long);
+        high = place-inside (a .enters .stands) l t (a .enters .size);
         first = λ e. last-is ∙ omega (arith, a .reaches, nine-each walked);
         empty = λ e.
             let none : t - startOf g t ≡ 0 = omega (arith, last-is) in
@@ -163,4 +147,4 @@ module _ (g : Log) (l : List ℕ) (t : ℕ) (a : Tails g l t) (slots : length (g
 
   pub withdrawn-arrays : (length (withdrawnLog g l t .slots) ≡ 64) × (length (withdrawnLog g l t .starts) ≡ 64)
   withdrawn-arrays =
-      remade (withdrawnLog g l t) (take (upTo g t) (slotsIn g)) (take (upTo g t) (startsIn g)) refl refl many each (omega (arith, within, few))
+      remade (withdrawnLog g l t) (take (upTo g t) (slotsIn g)) (take (upTo g t) (startsIn g)) refl refl many each (omega (arith, up-to-le g t, few))
