@@ -1,0 +1,4 @@
+pub mod Names
+pub mod Asking
+pub mod Saying
+pub mod Samples

@@ -1,0 +1,4 @@
+pub mod Words
+pub mod Numeral
+pub mod Hex
+pub mod Crc
