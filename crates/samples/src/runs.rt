@@ -33,7 +33,8 @@ fn show_version(name: &[u8], a: Answer) {
 }
 
 fn show_roll_slot(name: &[u8], a: Answer) {
-    print::two(name, a.number as u64, a.log.roll_slot.0 as u64);
+    let slot = a.log.roll_slot;
+    print::two(name, a.number as u64, slot.0 as u64);
 }
 
 // M is 50: 50 bytes fill an empty extent, 51 are too long.

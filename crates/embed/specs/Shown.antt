@@ -1,0 +1,40 @@
+-- What the calls that change nothing show over the mirror: read and counts.
+use Prim.Native.Nat.{ℕ}
+use mathlib.Core.List.{List}
+use lib.ListN.{length}
+use Rattle.refusals.specs.Order.{when}
+use Rattle.metadata.specs.Metadata.{sizesOk}
+use Rattle.steps.specs.declared.Reading.{Reading as LogReading}
+use Rattle.steps.specs.declared.Counts.{Counts}
+use Rattle.steps.specs.Outcome.{sized}
+use Rattle.steps.specs.Read.{readLog}
+use Rattle.steps.specs.Counts.{countsOf}
+use Rattle.embed.specs.declared.State.{State}
+use Rattle.embed.specs.declared.Reading.{Reading}
+use Rattle.embed.specs.declared.Report.{Report}
+use Rattle.embed.specs.Mirror.{known, logOf}
+use Rattle.embed.specs.Told.{unknownNumber}
+
+-- ---- read: the caller has its state still
+
+abbrev pub reading : ℕ → ℕ → ℕ → Reading
+reading k place size = record { number = k; place = place; length = size }
+
+abbrev pub readingOf : LogReading → Reading
+readingOf r = reading (r .number) (r .place) (r .length)
+
+unfoldable pub toldReading : State → List ℕ → ℕ → Reading
+toldReading state l x =
+    when (known (state .mode)) (readingOf (readLog (logOf state) l x)) (reading (unknownNumber (sized (state .e) (state .s) (length l))) 0 0)
+
+-- ---- counts: 1 is for E or S out of range alone
+
+abbrev pub report : ℕ → ℕ → ℕ → Report
+report k free live = record { number = k; free = free; live = live }
+
+abbrev pub reportOf : Counts → Report
+reportOf c = report (c .number) (c .free) (c .live)
+
+unfoldable pub toldReport : State → Report
+toldReport state =
+    when (known (state .mode)) (reportOf (countsOf (logOf state))) (report (unknownNumber (sizesOk (state .e) (state .s))) 0 0)

@@ -1,0 +1,49 @@
+// The calls that change nothing: read and counts. They hand back no state, since the caller has its own still.
+ghost use mathlib.Core.Path.{_≡_};
+ghost use Rattle.embed.specs.Shown.{toldReading, toldReport};
+use crate::Reading;
+use crate::Report;
+use crate::State;
+use crate::mirror;
+use crate::told;
+use record::Lsn;
+
+#[no_mangle]
+pub extern "C" fn liftlog_read(state: State, image: &[u8], lsn: Lsn) -> Reading
+    ensures { λ r. ⌜ r ≡ toldReading state (now (image .entry)) (lsn .0) ⌝ }
+{
+    if mirror::UNKNOWN <= state.mode {
+        let number = told::unknown_number(steps::sized(state.e, state.s, image.len()));
+        return Reading {
+            number,
+            place: 0,
+            length: 0,
+        };
+    }
+    let found = state.log().read(image, lsn);
+    Reading {
+        number: found.number,
+        place: found.place,
+        length: found.length,
+    }
+}
+
+#[no_mangle]
+pub extern "C" fn liftlog_counts(state: State) -> Report
+    ensures { λ r. ⌜ r ≡ toldReport state ⌝ }
+{
+    if mirror::UNKNOWN <= state.mode {
+        let number = told::unknown_number(metadata::sizes_ok(state.e, state.s));
+        return Report {
+            number,
+            free: 0,
+            live: 0,
+        };
+    }
+    let counted = state.log().counts();
+    Report {
+        number: counted.number,
+        free: counted.free,
+        live: counted.live,
+    }
+}
