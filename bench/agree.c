@@ -140,7 +140,7 @@ static enum call likely_call(uint8_t mode)
 static enum call some_call(uint8_t mode)
 {
     if (one_in(4))
-        return (enum call)from_to(OPEN, COUNTS);
+        return (enum call)from_to(WIPE, COUNTS);
     return one_in(30) ? OPEN : likely_call(mode);
 }
 

@@ -26,8 +26,21 @@ const struct side twin_side = {
 const struct side *const sides[SIDES] = {[PROVED] = &proved_side, [TWIN] = &twin_side, [BY_VALUE] = &value_side};
 
 const char *const call_names[CALLS] = {
-    "create",     "open",        "wipe",       "mark",        "append", "roll begin", "roll write", "roll list",
-    "head start", "head finish", "tail start", "tail finish", "close",  "read",       "counts",
+    [WIPE] = "wipe",
+    [MARK] = "mark",
+    [APPEND] = "append",
+    [ROLL_BEGIN] = "roll begin",
+    [ROLL_WRITE] = "roll write",
+    [ROLL_LIST] = "roll list",
+    [HEAD_START] = "head start",
+    [HEAD_FINISH] = "head finish",
+    [TAIL_START] = "tail start",
+    [TAIL_FINISH] = "tail finish",
+    [CLOSE] = "close",
+    [READ] = "read",
+    [OPEN] = "open",
+    [COUNTS] = "counts",
+    [CREATE] = "create",
 };
 
 struct outcome make_call(const struct side *side, enum call call, liftlog_state *state, uint8_t *image, size_t length,

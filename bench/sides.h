@@ -2,6 +2,7 @@
 #ifndef SIDES_H
 #define SIDES_H
 
+#include "calls.h"
 #include "liftlog.h"
 
 #include <stdbool.h>
@@ -32,26 +33,6 @@ extern const struct side proved_side, twin_side, value_side;
 enum { PROVED, TWIN, BY_VALUE, SIDES };
 
 extern const struct side *const sides[SIDES];
-
-/* A call as a value, for work that is made up. */
-enum call {
-    CREATE,
-    OPEN,
-    WIPE,
-    MARK,
-    APPEND,
-    ROLL_BEGIN,
-    ROLL_WRITE,
-    ROLL_LIST,
-    HEAD_START,
-    HEAD_FINISH,
-    TAIL_START,
-    TAIL_FINISH,
-    CLOSE,
-    READ,
-    COUNTS,
-    CALLS
-};
 
 extern const char *const call_names[CALLS];
 

@@ -38,7 +38,7 @@ fn looked(log: Log, number: u8) -> Answer {
 }
 
 // The call, its store cut after k bytes.
-pub fn call_cut(log: Log, image: &mut [u8], line: &[u8], call: Call, k: usize) -> Answer
+pub(crate) fn call_cut(log: Log, image: &mut [u8], line: &[u8], call: Call, k: usize) -> Answer
     requires { ⌜ length (now line) ≤ 4096 ⌝ }
 {
     let whole = all_or_none(k);
