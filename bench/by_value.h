@@ -9,6 +9,14 @@ static int kept(liftlog_state *state, const liftlog_answer *answer)
     return answer->number;
 }
 
+/* A step that takes the state and the image alone. */
+#define STEP(name)                                                              \
+    static int call_##name(liftlog_state *state, uint8_t *image, size_t length) \
+    {                                                                           \
+        liftlog_answer answer = CALL(name)(*state, image, length);              \
+        return kept(state, &answer);                                            \
+    }
+
 static int call_create(liftlog_state *state, uint8_t *image, size_t length, uint32_t e, uint8_t s)
 {
     liftlog_answer answer = CALL(create)(image, length, e, s);
@@ -21,17 +29,8 @@ static int call_open(liftlog_state *state, const uint8_t *image, size_t length)
     return kept(state, &answer);
 }
 
-static int call_wipe(liftlog_state *state, uint8_t *image, size_t length)
-{
-    liftlog_answer answer = CALL(wipe)(*state, image, length);
-    return kept(state, &answer);
-}
-
-static int call_mark(liftlog_state *state, uint8_t *image, size_t length)
-{
-    liftlog_answer answer = CALL(mark)(*state, image, length);
-    return kept(state, &answer);
-}
+STEP(wipe)
+STEP(mark)
 
 static int call_append(liftlog_state *state, uint8_t *image, size_t length, const uint8_t *payload, size_t p)
 {
@@ -51,11 +50,7 @@ static int call_roll_write(liftlog_state *state, uint8_t *image, size_t length, 
     return kept(state, &answer);
 }
 
-static int call_roll_list(liftlog_state *state, uint8_t *image, size_t length)
-{
-    liftlog_answer answer = CALL(roll_list)(*state, image, length);
-    return kept(state, &answer);
-}
+STEP(roll_list)
 
 static int call_head_start(liftlog_state *state, uint8_t *image, size_t length, uint32_t h)
 {
@@ -75,17 +70,8 @@ static int call_tail_start(liftlog_state *state, uint8_t *image, size_t length, 
     return kept(state, &answer);
 }
 
-static int call_tail_finish(liftlog_state *state, uint8_t *image, size_t length)
-{
-    liftlog_answer answer = CALL(tail_finish)(*state, image, length);
-    return kept(state, &answer);
-}
-
-static int call_close(liftlog_state *state, uint8_t *image, size_t length)
-{
-    liftlog_answer answer = CALL(close)(*state, image, length);
-    return kept(state, &answer);
-}
+STEP(tail_finish)
+STEP(close)
 
 static int call_read(const liftlog_state *state, const uint8_t *image, size_t length, uint32_t lsn, size_t *place,
                      size_t *payload_length)

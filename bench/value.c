@@ -7,6 +7,14 @@ static liftlog_answer answered(int number, const liftlog_state *state)
     return (liftlog_answer){(uint8_t)number, *state};
 }
 
+/* A step that takes the state and the image alone. */
+#define STEP(name)                                                                  \
+    liftlog_answer value_##name(liftlog_state state, uint8_t *image, size_t length) \
+    {                                                                               \
+        int number = twin_##name(&state, image, length);                            \
+        return answered(number, &state);                                            \
+    }
+
 liftlog_answer value_create(uint8_t *image, size_t length, uint32_t e, uint8_t s)
 {
     liftlog_state state;
@@ -21,17 +29,8 @@ liftlog_answer value_open(const uint8_t *image, size_t length)
     return answered(number, &state);
 }
 
-liftlog_answer value_wipe(liftlog_state state, uint8_t *image, size_t length)
-{
-    int number = twin_wipe(&state, image, length);
-    return answered(number, &state);
-}
-
-liftlog_answer value_mark(liftlog_state state, uint8_t *image, size_t length)
-{
-    int number = twin_mark(&state, image, length);
-    return answered(number, &state);
-}
+STEP(wipe)
+STEP(mark)
 
 liftlog_answer value_append(liftlog_state state, uint8_t *image, size_t length, const uint8_t *payload, size_t p)
 {
@@ -51,11 +50,7 @@ liftlog_answer value_roll_write(liftlog_state state, uint8_t *image, size_t leng
     return answered(number, &state);
 }
 
-liftlog_answer value_roll_list(liftlog_state state, uint8_t *image, size_t length)
-{
-    int number = twin_roll_list(&state, image, length);
-    return answered(number, &state);
-}
+STEP(roll_list)
 
 liftlog_answer value_head_start(liftlog_state state, uint8_t *image, size_t length, uint32_t h)
 {
@@ -75,17 +70,8 @@ liftlog_answer value_tail_start(liftlog_state state, uint8_t *image, size_t leng
     return answered(number, &state);
 }
 
-liftlog_answer value_tail_finish(liftlog_state state, uint8_t *image, size_t length)
-{
-    int number = twin_tail_finish(&state, image, length);
-    return answered(number, &state);
-}
-
-liftlog_answer value_close(liftlog_state state, uint8_t *image, size_t length)
-{
-    int number = twin_close(&state, image, length);
-    return answered(number, &state);
-}
+STEP(tail_finish)
+STEP(close)
 
 liftlog_reading value_read(liftlog_state state, const uint8_t *image, size_t length, uint32_t lsn)
 {

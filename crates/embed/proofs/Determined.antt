@@ -4,13 +4,14 @@ use mathlib.Core.Path.{_≡_, sym, _∙_}
 use mathlib.Core.List.{List}
 use lib.ListN.{length}
 use Rattle.scan.specs.Scan.{scan}
-use Rattle.steps.specs.Open.{createAnswer, createImage, openAnswer}
-use Rattle.steps.specs.Plain.{headFinishLog}
+use Rattle.create.specs.Create.{createAnswer, createImage}
+use Rattle.recovery.specs.Recovery.{openAnswer}
+use Rattle.contracts.specs.Call.{Call, headFinishes}
 use Rattle.embed.specs.declared.State.{State}
 use Rattle.embed.specs.declared.Answer.{Answer}
 use Rattle.embed.specs.declared.Reading.{Reading}
 use Rattle.embed.specs.declared.Report.{Report}
-use Rattle.embed.specs.Told.{Call, Told, mirrored, toldAnswer}
+use Rattle.embed.specs.Told.{Told, mirrored, toldAnswer}
 use Rattle.embed.specs.Shown.{toldReading, toldReport}
 
 -- where a contract is an equation, what meets it is that one value
@@ -28,10 +29,10 @@ step-determined call state l r r′ a a′ p q = (one _ r r′ (p .answer) (q .a
 -- head finish stores nothing
 pub head-finish-determined :
     (state : State) (l : List ℕ) (r r′ : Answer)
-    → r ≡ toldAnswer headFinishLog state l
-    → r′ ≡ toldAnswer headFinishLog state l
+    → r ≡ toldAnswer headFinishes state l
+    → r′ ≡ toldAnswer headFinishes state l
     → r ≡ r′
-head-finish-determined state l = one (toldAnswer headFinishLog state l)
+head-finish-determined state l = one (toldAnswer headFinishes state l)
 
 pub create-determined :
     (e s : ℕ) (l : List ℕ) (r r′ : Answer) (a a′ : List ℕ)

@@ -5,20 +5,22 @@ use mathlib.Core.Path.{_≡_}
 use mathlib.Core.List.{List}
 use borrow.Author.Tests.{lt-ltb, le-ltb}
 use lib.ListN.{length}
-use Rattle.steps.specs.declared.Log.{Log}
-use Rattle.steps.specs.declared.Answer.{Answer as LogAnswer}
-use Rattle.steps.specs.Outcome.{Did, answerOf, sized}
+use Rattle.state.specs.declared.State.{State as Log}
+use Rattle.state.specs.declared.Answer.{Answer as LogAnswer}
+use Rattle.outcome.specs.Outcome.{Did, answerOf}
+use Rattle.outcome.specs.Enter.{sized}
+use Rattle.contracts.specs.Call.{Call, does}
 use Rattle.embed.specs.declared.State.{State}
 use Rattle.embed.specs.declared.Answer.{Answer}
 use Rattle.embed.specs.Mirror.{logOf}
-use Rattle.embed.specs.Told.{Call, Told, answer, mirrored, unknownNumber, toldAnswer, toldImage}
+use Rattle.embed.specs.Told.{Told, answer, mirrored, unknownNumber, toldAnswer, toldImage}
 
 module _ (call : Call) (state : State) (l : List ℕ) where
   pub unknown-answer : 10 ≤ state .mode → answer (unknownNumber (sized (state .e) (state .s) (length l))) state ≡ toldAnswer call state l
   unfolding toldAnswer
   unknown-answer h = rw (le-ltb (state .mode) 10 h)
 
-  pub known-answer : state .mode < 10 → mirrored (answerOf (call (logOf state) l)) ≡ toldAnswer call state l
+  pub known-answer : state .mode < 10 → mirrored (answerOf (does call (logOf state) l)) ≡ toldAnswer call state l
   unfolding toldAnswer
   known-answer h = rw (lt-ltb (state .mode) 10 h)
 
@@ -30,7 +32,7 @@ module _ (call : Call) (state : State) (l : List ℕ) where
       (g : Log) (a : LogAnswer) (r : Answer) (l′ : List ℕ)
       → state .mode < 10
       → g ≡ logOf state
-      → Did (call g l) l a l′
+      → Did (does call g l) l a l′
       → r ≡ mirrored a
       → Told call state l r l′
   unfolding toldImage

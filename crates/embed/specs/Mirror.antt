@@ -2,20 +2,13 @@
 use Prim.Native.Nat.{ℕ}
 use mathlib.Core.Bool.{Bool}
 use lib.Dec.{ltb}
-use lib.ListN.{getD}
-use Rattle.table.specs.declared.Mode.{Mode}
-use Rattle.table.specs.declared.Mode.the-variants.{Closed}
-use Rattle.table.specs.Next.{modeNo, modes}
-use Rattle.steps.specs.declared.Log.{Log}
+use Rattle.table.specs.Next.{modeNo, modeOf}
+use Rattle.state.specs.declared.State.{State as Log}
 use Rattle.embed.specs.declared.State.{State}
 
 -- the byte is one of the ten modes'
 abbrev pub known : ℕ → Bool
 known b = ltb b 10
-
--- the mode of a known byte; of any other nothing is asked
-abbrev pub modeOf : ℕ → Mode
-modeOf b = getD modes b Closed
 
 unfoldable pub logOf : State → Log
 logOf state = record {

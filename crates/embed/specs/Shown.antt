@@ -4,11 +4,11 @@ use mathlib.Core.List.{List}
 use lib.ListN.{length}
 use Rattle.refusals.specs.Order.{when}
 use Rattle.metadata.specs.Metadata.{sizesOk}
-use Rattle.steps.specs.declared.Reading.{Reading as LogReading}
-use Rattle.steps.specs.declared.Counts.{Counts}
-use Rattle.steps.specs.Outcome.{sized}
-use Rattle.steps.specs.Read.{readLog}
-use Rattle.steps.specs.Counts.{countsOf}
+use Rattle.read.specs.declared.Reading.{Reading as LogReading}
+use Rattle.counts.specs.declared.Counts.{Counts}
+use Rattle.outcome.specs.Enter.{sized}
+use Rattle.read.specs.Read.{readAnswer}
+use Rattle.counts.specs.Counts.{countsOf}
 use Rattle.embed.specs.declared.State.{State}
 use Rattle.embed.specs.declared.Reading.{Reading}
 use Rattle.embed.specs.declared.Report.{Report}
@@ -25,7 +25,7 @@ readingOf r = reading (r .number) (r .place) (r .length)
 
 unfoldable pub toldReading : State → List ℕ → ℕ → Reading
 toldReading state l x =
-    when (known (state .mode)) (readingOf (readLog (logOf state) l x)) (reading (unknownNumber (sized (state .e) (state .s) (length l))) 0 0)
+    when (known (state .mode)) (readingOf (readAnswer (logOf state) l x)) (reading (unknownNumber (sized (state .e) (state .s) (length l))) 0 0)
 
 -- ---- counts: 1 is for E or S out of range alone
 

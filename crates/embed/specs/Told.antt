@@ -1,4 +1,4 @@
--- What a call over the mirror does: on a known mode what the call of `steps` does, mirrored back; on any other byte, which is a
+-- What a call over the mirror does: on a known mode what the call does, mirrored back; on any other byte, which is a
 -- malformed state, 1 or 2, with state and image as they were.
 use Prim.Native.Nat.{ℕ}
 use mathlib.Core.Bool.{Bool}
@@ -6,10 +6,12 @@ use mathlib.Core.Path.{_≡_}
 use mathlib.Core.List.{List}
 use lib.ListN.{length}
 use Rattle.refusals.specs.Order.{when, must, firstOf}
-use Rattle.store.specs.Store.{count, laid}
-use Rattle.steps.specs.declared.Log.{Log}
-use Rattle.steps.specs.declared.Answer.{Answer as LogAnswer}
-use Rattle.steps.specs.Outcome.{Outcome, answerOf, sized}
+use Rattle.refusals.specs.Refusals.{SIZE, MALFORMED}
+use Rattle.medium.specs.Store.{count, laid}
+use Rattle.state.specs.declared.Answer.{Answer as LogAnswer}
+use Rattle.outcome.specs.Outcome.{answerOf}
+use Rattle.outcome.specs.Enter.{sized}
+use Rattle.contracts.specs.Call.{Call, does}
 use Rattle.embed.specs.declared.State.{State}
 use Rattle.embed.specs.declared.Answer.{Answer}
 use Rattle.embed.specs.Mirror.{known, logOf, stateOf}
@@ -22,19 +24,15 @@ mirrored a = answer (a .number) (stateOf (a .log))
 
 -- a byte that is no mode: 1 where the sizes are wrong, else 2
 unfoldable pub unknownNumber : Bool → ℕ
-unknownNumber sizes = firstOf (must sizes 1) 2
-
--- a step of `steps`, with its arguments in place
-abbrev pub Call : Type 0
-Call = Log → List ℕ → Outcome
+unknownNumber sizes = firstOf (must sizes SIZE) MALFORMED
 
 unfoldable pub toldAnswer : Call → State → List ℕ → Answer
 toldAnswer call state l =
-    when (known (state .mode)) (mirrored (answerOf (call (logOf state) l))) (answer (unknownNumber (sized (state .e) (state .s) (length l))) state)
+    when (known (state .mode)) (mirrored (answerOf (does call (logOf state) l))) (answer (unknownNumber (sized (state .e) (state .s) (length l))) state)
 
 unfoldable pub toldImage : Call → State → List ℕ → List ℕ
 toldImage call state l =
-    when (known (state .mode)) (laid (count (call (logOf state) l .store)) (call (logOf state) l .store) l) l
+    when (known (state .mode)) (laid (count (does call (logOf state) l .store)) (does call (logOf state) l .store) l) l
 
 -- a call that takes state and an image l answers r, and leaves l′
 pub record Told (call : Call) (state : State) (l : List ℕ) (r : Answer) (l′ : List ℕ) : Type 0 where

@@ -1,41 +1,17 @@
 // From the mirror to the log and back: the same fields, the mode as the byte of its place in document 01's order.
 ghost use mathlib.Core.Path.{_≡_};
 ghost use Prim.Native.Nat.{_<_};
-ghost use Rattle.embed.specs.Mirror.{modeOf, logOf, stateOf};
+ghost use Rattle.embed.specs.Mirror.{logOf, stateOf};
 ghost use Rattle.embed.specs.Told.{mirrored as Told·mirrored};
 use crate::Answer;
 use crate::State;
-use steps::Log;
-use table::Mode;
-
-// The modes in document 01's order: the byte of a mode is its place here.
-const MODES: [Mode; 10] = [
-    Mode::Closed,
-    Mode::Opened,
-    Mode::Wiped,
-    Mode::Run,
-    Mode::Zeroed,
-    Mode::Written,
-    Mode::Tail,
-    Mode::RunH,
-    Mode::ZeroedH,
-    Mode::WrittenH,
-];
 
 // A byte from here on is no mode.
-pub(crate) const UNKNOWN: u8 = 10;
-
-fn mode_of(b: u8) -> Mode
-    requires { ⌜ b < 10 ⌝ }
-    ensures { λ r. ⌜ r ≡ modeOf b ⌝ }
-{
-    let i = b as usize;
-    MODES[i]
-}
+pub(crate) const UNKNOWN: u8 = table::COUNT as u8;
 
 impl State {
     // Only a known mode has a log.
-    pub(crate) fn log(self) -> Log
+    pub(crate) fn log(self) -> state::State
         requires { ⌜ self .mode < 10 ⌝ }
         ensures { λ r. ⌜ r ≡ logOf self ⌝ }
     {
@@ -46,7 +22,7 @@ impl State {
         let last = self.last;
         let version = self.version;
         let roll_slot = self.roll_slot;
-        Log {
+        state::State {
             pending: self.pending,
             e: self.e,
             head,
@@ -57,7 +33,7 @@ impl State {
             starts,
             slots,
             version,
-            mode: mode_of(self.mode),
+            mode: table::mode_of(self.mode as usize),
             s: self.s,
             n: self.n,
             roll_slot,
@@ -65,7 +41,7 @@ impl State {
     }
 }
 
-fn state_of(log: Log) -> State
+fn state_of(log: state::State) -> State
     ensures { λ r. ⌜ r ≡ stateOf log ⌝ }
 {
     let mode = log.mode;
@@ -95,7 +71,7 @@ fn state_of(log: Log) -> State
 }
 
 // The answer of a call on the log, over the mirror.
-pub(crate) fn mirrored(a: steps::Answer) -> Answer
+pub(crate) fn mirrored(a: state::Answer) -> Answer
     ensures { λ r. ⌜ r ≡ Told·mirrored a ⌝ }
 {
     let log = a.log;

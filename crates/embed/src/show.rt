@@ -13,14 +13,14 @@ pub extern "C" fn liftlog_read(state: State, image: &[u8], lsn: Lsn) -> Reading
     ensures { λ r. ⌜ r ≡ toldReading state (now (image .entry)) (lsn .0) ⌝ }
 {
     if mirror::UNKNOWN <= state.mode {
-        let number = told::unknown_number(steps::sized(state.e, state.s, image.len()));
+        let number = told::unknown_number(outcome::sized(state.e, state.s, image.len()));
         return Reading {
             number,
             place: 0,
             length: 0,
         };
     }
-    let found = state.log().read(image, lsn);
+    let found = read::read(state.log(), image, lsn);
     Reading {
         number: found.number,
         place: found.place,
@@ -40,7 +40,7 @@ pub extern "C" fn liftlog_counts(state: State) -> Report
             live: 0,
         };
     }
-    let counted = state.log().counts();
+    let counted = counts::count(state.log());
     Report {
         number: counted.number,
         free: counted.free,

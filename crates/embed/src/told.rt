@@ -1,7 +1,7 @@
 // What a call answers where the mode's byte is none of the ten: the state is malformed, and the size comes first as everywhere.
 ghost use mathlib.Core.Path.{_≡_};
 ghost use Rattle.embed.specs.Told.{answer, unknownNumber};
-ghost use Rattle.steps.specs.Outcome.{sized};
+ghost use Rattle.outcome.specs.Enter.{sized};
 use crate::Answer;
 use crate::State;
 
@@ -21,7 +21,7 @@ impl State {
         ensures { λ r. ⌜ r ≡ answer (unknownNumber (sized (self .e) (self .s) len)) self ⌝ }
     {
         Answer {
-            number: unknown_number(steps::sized(self.e, self.s, len)),
+            number: unknown_number(outcome::sized(self.e, self.s, len)),
             state: self,
         }
     }

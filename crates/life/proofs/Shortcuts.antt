@@ -7,27 +7,18 @@ use mathlib.Core.List.{List, [], _∷_}
 use borrow.Author.Tests.{eqb-false}
 use lib.Dec.{eqb}
 use lib.ListN.{getD}
-use Rattle.refusals.specs.Order.{firstOf}
 use Rattle.numbers.specs.Numbers.{zeros}
-use Rattle.record.specs.Record.{recordBytes, completeAt, allowed}
-use Rattle.extent.specs.Extent.{headerAt, payloadsFrom, sizes}
-use Rattle.metadata.specs.Metadata.{sizesOk, listed, metadataBytes, allBelow, rules, valueOf, numberOf}
-use Rattle.store.specs.Store.{laidOne, laidFirst, laid, arrives}
+use Rattle.record.specs.Record.{recordBytes}
+use Rattle.medium.specs.Store.{laidOne, laidFirst, laid, arrives}
 use Rattle.stores.specs.Stores.{extentBytes}
-use Rattle.slots.specs.Entries.{among, distinct, rising, leading}
-use Rattle.slots.specs.Word.{word, count, lowest, isFree}
-use Rattle.scan.specs.Scan.{extentsIn, allBegin, joined, tailOf, placeOf, headInFirst, extentsOk, openNumber, scan}
+use Rattle.scan.specs.Scan.{scan}
 use Rattle.scan.specs.Answers.{openingOf}
-use Rattle.table.specs.Next.{nextOf}
-use Rattle.steps.specs.declared.Answer.{Answer}
-use Rattle.steps.specs.Well.{listOk, belowSecond, headOk, marksOk, placeOk, pendingOk, rollOk, unusedOk, wellFormed}
-use Rattle.steps.specs.Outcome.{outcome, sized, enterNumber}
-use Rattle.steps.specs.Open.{zeroLog, freshLog, freshImage, openAnswer}
-use Rattle.steps.specs.Plain.{restLog, markLog, appendNumber, appendLog, headFinishLog}
-use Rattle.steps.specs.Roll.{rollBeginNumber, rollBeginLog, rollWriteNumber, rollWriteLog, rollListLog}
-use Rattle.steps.specs.Head.{headStartNumber, headStartLog}
-use Rattle.steps.specs.Tail.{tailStartNumber, tailStartLog}
-use Rattle.life.specs.Life.{Call, opens, wipes, marks, appends, rollBegins, rollWrites, rollLists, headStarts, headFinishes, tailStarts, tailFinishes, does, World, Event, call, cut, dark, step, lives, created, Found}
+use Rattle.state.specs.declared.Answer.{Answer}
+use Rattle.recovery.specs.Recovery.{openAnswer}
+use Rattle.contracts.proofs.Computing.{computing}
+use Rattle.contracts.specs.Call.{Call, opens, wipes, marks, appends, rollBegins, rollWrites, rollLists, headStarts, headFinishes, tailStarts}
+use Rattle.contracts.specs.Call.{tailFinishes, does}
+use Rattle.life.specs.Life.{World, Event, call, cut, dark, step, lives, created, Found}
 use Rattle.life.specs.Follows.{endIn}
 
 -- ---- what is looked at
@@ -70,7 +61,7 @@ differs-at i {w} p q n = record {
 
 -- the world after these events, at E = 64, S = 2; what a life computes by is opened with it
 unfoldable pub after : List Event → World
-unfolding firstOf recordBytes completeAt allowed headerAt payloadsFrom sizes sizesOk listed metadataBytes allBelow rules valueOf numberOf laidOne laidFirst laid arrives extentBytes among distinct rising leading word count lowest isFree extentsIn allBegin joined tailOf placeOf headInFirst extentsOk openNumber scan openingOf nextOf listOk belowSecond headOk marksOk placeOk pendingOk rollOk unusedOk wellFormed outcome sized enterNumber zeroLog freshLog freshImage openAnswer restLog markLog appendNumber appendLog headFinishLog rollBeginNumber rollBeginLog rollWriteNumber rollWriteLog rollListLog headStartNumber headStartLog tailStartNumber tailStartLog does step lives
+unfolding computing laidOne laidFirst laid arrives extentBytes does step lives
 after es = lives es (created 64 2)
 
 -- the state that a call leads to, its store left out: image and history know nothing of it

@@ -7,14 +7,15 @@ use mathlib.Core.Logic.{_⊎_}
 use mathlib.Core.List.{List, [], _∷_}
 use lib.ListN.{length, getD}
 use Rattle.metadata.specs.Metadata.{sizesOk}
-use Rattle.store.specs.Store.{count}
+use Rattle.medium.specs.Store.{count}
 use Rattle.scan.specs.Scan.{Scan, refused, opened, scan}
 use Rattle.table.specs.Next.{nextOf}
 use Rattle.table.specs.declared.Mode.the-variants.{Run}
 use Rattle.table.specs.declared.Step.the-variants.{Read}
-use Rattle.steps.specs.Outcome.{leads}
-use Rattle.steps.specs.Read.{readLog, shown}
-use Rattle.life.specs.Life.{Call, opens, wipes, marks, appends, rollLists, headStarts, tailStarts, does, History, World, Event, call, cut, dark, step, lives, created, Record, numbered, recordsOf, live}
+use Rattle.outcome.specs.Enter.{leads}
+use Rattle.read.specs.Read.{readAnswer, shown}
+use Rattle.contracts.specs.Call.{Call, opens, wipes, marks, appends, rollLists, headStarts, tailStarts, does}
+use Rattle.life.specs.Life.{History, World, Event, call, cut, dark, step, lives, created, Record, numbered, recordsOf, live}
 
 -- ---- any world of any life
 
@@ -181,7 +182,7 @@ Reads w y =
     (x : ℕ)
     → y .head ≤ x
     → x < endIn y
-    → (readLog (w .log) (w .image) x .number ≡ 0) × (shown (readLog (w .log) (w .image) x) (w .image) ≡ getD (y .payloads) (x - y .head) [])
+    → (readAnswer (w .log) (w .image) x .number ≡ 0) × (shown (readAnswer (w .log) (w .image) x) (w .image) ≡ getD (y .payloads) (x - y .head) [])
 
 -- in every mode that admits it
 unfoldable pub ReadsShow : Type 0

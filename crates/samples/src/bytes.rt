@@ -53,7 +53,7 @@ pub fn listed() {
     print::two(
         b"12 create, head; then its listing",
         made.number as u64,
-        made.log.head.0 as u64,
+        made.log.0.head.0 as u64,
     );
-    listing::print_image(&image);
+    loglist_core::print_image(&image);
 }

@@ -1,6 +1,7 @@
 // Samples 3 to 10: calls on logs that run.
 use crate::print;
 use record::Lsn;
+use state::State;
 use steps::Answer;
 use steps::Log;
 
@@ -17,23 +18,23 @@ fn running(image: &mut [u8]) -> Log {
 
 // A call's number, and one field of the state that it left.
 fn show_place(name: &[u8], a: Answer) {
-    print::two(name, a.number as u64, a.log.place as u64);
+    print::two(name, a.number as u64, a.log.0.place as u64);
 }
 
 fn show_head(name: &[u8], a: Answer) {
-    print::two(name, a.number as u64, a.log.head.0 as u64);
+    print::two(name, a.number as u64, a.log.0.head.0 as u64);
 }
 
 fn show_tail(name: &[u8], a: Answer) {
-    print::two(name, a.number as u64, a.log.tail.0 as u64);
+    print::two(name, a.number as u64, a.log.0.tail.0 as u64);
 }
 
 fn show_version(name: &[u8], a: Answer) {
-    print::two(name, a.number as u64, a.log.version.0 as u64);
+    print::two(name, a.number as u64, a.log.0.version.0 as u64);
 }
 
 fn show_roll_slot(name: &[u8], a: Answer) {
-    let slot = a.log.roll_slot;
+    let slot = a.log.0.roll_slot;
     print::two(name, a.number as u64, slot.0 as u64);
 }
 
@@ -137,16 +138,16 @@ pub fn tail() {
 // A log at the last LSN but one: the state says so.
 pub fn last_lsn() {
     let mut image = [0u8; 212];
-    let log = running(&mut image);
-    let mut starts = log.starts;
+    let state = running(&mut image).0;
+    let mut starts = state.starts;
     starts[0] = Lsn(4294967294);
-    let near = Log {
+    let near = State {
         starts,
         head: Lsn(4294967294),
         tail: Lsn(4294967294),
-        ..log
+        ..state
     };
-    let done = near.append(&mut image, b"AB");
+    let done = Log(near).append(&mut image, b"AB");
     show_tail(b"10 append at tail 4294967294, tail", done);
     show_tail(
         b"10 the next append, tail",

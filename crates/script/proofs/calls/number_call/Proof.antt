@@ -17,23 +17,33 @@ index-requires c κs = search needs
 
 returns : tie.Need-returns
 unfolding words
-returns c = sym (ap (λ (f : ℕ → Asked). f (c .before .before .before .before .args .v)) (named _ _ numberCalls _ (c .before .index .ensures) 0 (c .match .keys1)))
+returns c =
+    let start = c .before .before .before .before in
+    sym (ap (λ (f : ℕ → Asked). f (start .args .v)) (named _ _ numberCalls _ (c .before .index .ensures) 0 (c .match .keys1)))
 
 returns-2 : tie.Need-returns-2
 unfolding words
-returns-2 c = sym (ap (λ (f : ℕ → Asked). f (c .before .before .before .before .args .v)) (named _ _ numberCalls _ (c .before .index .ensures) 1 (c .match .keys2)))
+returns-2 c =
+    let start = c .before .before .before .before in
+    sym (ap (λ (f : ℕ → Asked). f (start .args .v)) (named _ _ numberCalls _ (c .before .index .ensures) 1 (c .match .keys2)))
 
 returns-3 : tie.Need-returns-3
 unfolding words
-returns-3 c = sym (ap (λ (f : ℕ → Asked). f (c .before .before .before .before .args .v)) (named _ _ numberCalls _ (c .before .index .ensures) 2 (c .match .keys3)))
+returns-3 c =
+    let start = c .before .before .before .before in
+    sym (ap (λ (f : ℕ → Asked). f (start .args .v)) (named _ _ numberCalls _ (c .before .index .ensures) 2 (c .match .keys3)))
 
 returns-4 : tie.Need-returns-4
 unfolding words
-returns-4 c = sym (ap (λ (f : ℕ → Asked). f (c .before .before .before .before .args .v)) (named _ _ numberCalls _ (c .before .index .ensures) 3 (c .match .keys4)))
+returns-4 c =
+    let start = c .before .before .before .before in
+    sym (ap (λ (f : ℕ → Asked). f (start .args .v)) (named _ _ numberCalls _ (c .before .index .ensures) 3 (c .match .keys4)))
 
 returns-5 : tie.Need-returns-5
 unfolding words
-returns-5 c = sym (ap (λ (f : ℕ → Asked). f (c .before .before .before .before .args .v)) (unnamed _ _ numberCalls _ (c .before .index .ensures) (past _ 4 (c .match .rest))))
+returns-5 c =
+    let start = c .before .before .before .before in
+    sym (ap (λ (f : ℕ → Asked). f (start .args .v)) (unnamed _ _ numberCalls _ (c .before .index .ensures) (past _ 4 (c .match .rest))))
 
 pub number-call-spec : {M : Type 1} → statement M
 number-call-spec =

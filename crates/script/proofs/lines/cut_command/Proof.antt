@@ -20,7 +20,10 @@ enum-told : tie.Need-enum-told
 enum-told c = search needs
 
 returns : tie.Need-returns
-returns c = sym (cut-uncounted (c .before .before .before .before .args .count .now) _ (sym (c .before .before .number .ensures) ∙ c .enum-told .given .1))
+returns c =
+    let number = c .before .before .number in
+    let start = c .before .before .before .before in
+    sym (cut-uncounted (start .args .count .now) _ (sym (number .ensures) ∙ c .enum-told .given .1))
 
 enum-known-call : tie.Need-enum-known-call
 enum-known-call c = search needs
@@ -35,13 +38,17 @@ counted :
 counted c = sym (c .before .before .before .number .ensures) ∙ c .before .parsed .given .1
 
 returns-2 : tie.Need-returns-2
-returns-2 c = sym (cut-nothing _ (c .before .before .before .before .before .before .before .args .call) _ (counted (c .before .before)) (c .enum-told2 .given .1))
+returns-2 c =
+    let start = c .before .before .before .before .before .before .before in
+    sym (cut-nothing _ (start .args .call) _ (counted (c .before .before)) (c .enum-told2 .given .1))
 
 cast-t6 : tie.Need-cast-t6
 cast-t6 c = omega (arith, bounded most _ _ (counted (c .before .before .before)))
 
 returns-3 : tie.Need-returns-3
-returns-3 c = sym (cut-call _ (c .before .before .before .before .before .before .before .before .args .call) _ (c .before .call .given .0 .0) (counted (c .before .before .before)) (c .before .call .given .1))
+returns-3 c =
+    let start = c .before .before .before .before .before .before .before .before in
+    sym (cut-call _ (start .args .call) _ (c .before .call .given .0 .0) (counted (c .before .before .before)) (c .before .call .given .1))
 
 pub cut-command-spec : {M : Type 1} → statement M
 cut-command-spec =

@@ -12,7 +12,10 @@ enum-known-call : tie.Need-enum-known-call
 enum-known-call c = search needs
 
 returns : tie.Need-returns
-returns c = sym (one-call (c .before .before .before .before .before .args .w .now) (c .before .call .given .0 .0) (sym (c .before .before .before .plain-call .ensures) ∙ c .before .call .given .1))
+returns c =
+    let plain-call = c .before .before .before .plain-call in
+    let start = c .before .before .before .before .before in
+    sym (one-call (start .args .w .now) (c .before .call .given .0 .0) (sym (plain-call .ensures) ∙ c .before .call .given .1))
 
 enum-told : tie.Need-enum-told
 enum-told c = search needs

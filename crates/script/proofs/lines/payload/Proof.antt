@@ -24,7 +24,10 @@ same-length c = search needs
 
 returns : tie.Need-returns
 unfolding linePayload
-returns c = (cc, omega (arith, bytes-length (c .before .before .before .before .word .result .now), c .before .before .unhex .kept .1 .0, c .before .before .before .before .word .ensures .1), cc)
+returns c =
+    let unhex = c .before .before .unhex in
+    let word = c .before .before .before .before .word in
+    (cc, omega (arith, bytes-length (word .result .now), unhex .kept .1 .0, word .ensures .1), cc)
 
 pub payload-spec : {M : Type 1} → statement M
 payload-spec =

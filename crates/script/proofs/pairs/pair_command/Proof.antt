@@ -62,13 +62,19 @@ read-first :
     (c : tie.After-known-told) →
     let i = c .before .before .before .before .before .before .index .result in
     numberOf (pairAt i .bound₁) (c .before .before .before .before .before .before .before .before .before .before .before .args .a .now) ≡ Parsed.Number (c .before .first .given .0 .0)
-read-first c = read-under _ (c .before .before .before .before .first-of .ensures) (c .before .before .before .number .ensures) (c .before .first .given .1)
+read-first c =
+    let number = c .before .before .before .number in
+    let first-of = c .before .before .before .before .first-of in
+    read-under _ (first-of .ensures) (number .ensures) (c .before .first .given .1)
 
 read-second :
     (c : tie.After-known-told2) →
     let i = c .before .before .before .before .before .before .before .before .before .before .before .index .result in
     numberOf (pairAt i .bound₂) (c .before .before .before .before .before .before .before .before .before .before .before .before .before .before .before .before .args .b .now) ≡ Parsed.Number (c .before .second .given .0 .0)
-read-second c = read-under _ (c .before .before .before .before .second-of .ensures) (c .before .before .before .number2 .ensures) (c .before .second .given .1)
+read-second c =
+    let number2 = c .before .before .before .number2 in
+    let second-of = c .before .before .before .before .second-of in
+    read-under _ (second-of .ensures) (number2 .ensures) (c .before .second .given .1)
 
 returns-3 : tie.Need-returns-3
 unfolding words pairCommand

@@ -38,7 +38,10 @@ read :
     let i = c .before .before .before .before .before .before .index .result in
     let a = c .before .before .before .before .before .before .before .before .before .before .args in
     numberOf (fieldAt i .bound) (a .value .now) ≡ Parsed.Number (c .before .parsed .given .0 .0)
-read c = read-under _ (c .before .before .before .before .bound-of .ensures) (c .before .before .before .number .ensures) (c .before .parsed .given .1)
+read c =
+    let number = c .before .before .before .number in
+    let bound-of = c .before .before .before .before .bound-of in
+    read-under _ (bound-of .ensures) (number .ensures) (c .before .parsed .given .1)
 
 setting-requires : tie.Need-setting-requires
 setting-requires c κs = (omega arith, bounded _ _ _ (read c))

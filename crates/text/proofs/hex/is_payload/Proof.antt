@@ -15,13 +15,20 @@ returns : tie.Need-returns
 returns c = sym (payload-none (c .before .before .before .before .args .word .now) (sym (c .before .same .ensures) ∙ c .if1 .taken))
 
 returns-2 : tie.Need-returns-2
-returns-2 c = sym (payload-empty (c .before .before .before .before .before .args .word .now) (sym (c .before .before .same .ensures) ∙ c .before .if1 .left) (c .if2 .taken))
+returns-2 c =
+    let same = c .before .before .same in
+    let start = c .before .before .before .before .before in
+    sym (payload-empty (start .args .word .now) (sym (same .ensures) ∙ c .before .if1 .left) (c .if2 .taken))
 
 pairs-requires : tie.Need-pairs-requires
 pairs-requires c κs = search needs
 
 returns-3 : tie.Need-returns-3
-returns-3 c = c .pairs .ensures ∙ sym (payload-pairs (c .before .before .before .before .before .before .args .word .now) (sym (c .before .before .before .same .ensures) ∙ c .before .before .if1 .left) (c .before .if2 .left))
+returns-3 c =
+    let if1 = c .before .before .if1 in
+    let same = c .before .before .before .same in
+    let start = c .before .before .before .before .before .before in
+    c .pairs .ensures ∙ sym (payload-pairs (start .args .word .now) (sym (same .ensures) ∙ if1 .left) (c .before .if2 .left))
 
 pub is-payload-spec : {M : Type 1} → statement M
 is-payload-spec =

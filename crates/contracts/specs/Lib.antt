@@ -1,0 +1,4 @@
+pub mod Call
+pub mod Contracts
+pub mod Cheats
+pub mod Samples
