@@ -8,13 +8,13 @@ use borrow.Author.Tests.{lt-ltb}
 use lib.ListN.{length}
 use Rattle.metadata.specs.Metadata.{sizesOk, allBelow}
 use Rattle.metadata.proofs.Facts.{Sizes, sizes-say}
-use Rattle.slots.specs.Entries.{among, distinct, rising}
 use Rattle.table.specs.declared.Mode.{Mode}
-use Rattle.state.specs.declared.State.{State}
 use Rattle.table.specs.Modes.{inRoll}
+use Rattle.slots.specs.Entries.{among, distinct, rising}
+use Rattle.state.specs.declared.State.{State}
 use Rattle.state.specs.Change.{inMode}
-use Rattle.create.specs.Create.{freshState}
 use Rattle.well.proofs.Facts.{Well}
+use Rattle.create.specs.Create.{freshState}
 use Rattle.contracts.proofs.Rest.{none-pending, no-roll}
 use Rattle.contracts.proofs.Relisted.{relisted, reunused, remade}
 

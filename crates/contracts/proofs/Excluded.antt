@@ -6,9 +6,9 @@ use mathlib.Core.List.{List, []}
 use native.Mathlib.Omega.{arith}
 use borrow.Author.Tests.{leb-true}
 use lib.ListN.{getD}
+use Rattle.medium.specs.Store.{laid, laidFirst, laidOne}
 use Rattle.metadata.specs.Metadata.{sizesOk}
 use Rattle.metadata.proofs.Samples.{freshBytes}
-use Rattle.medium.specs.Store.{laid, laidFirst, laidOne}
 use Rattle.table.specs.declared.Mode.the-variants.{Opened, Wiped, Written, Tail}
 use Rattle.state.specs.declared.State.{State}
 use Rattle.state.specs.declared.Answer.{Answer}

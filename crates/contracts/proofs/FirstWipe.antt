@@ -13,12 +13,12 @@ use Rattle.table.specs.declared.Step.the-variants.{Wipe}
 use Rattle.state.specs.declared.State.{State}
 use Rattle.state.specs.Change.{inMode}
 use Rattle.well.specs.Well.{wellFormed}
+use Rattle.well.proofs.Facts.{well-kept}
 use Rattle.outcome.specs.Outcome.{Outcome}
 use Rattle.outcome.specs.Enter.{sized, leads, enterNumber}
-use Rattle.create.specs.Create.{freshState, freshImage}
 use Rattle.outcome.specs.Rest.{restOutcome}
+use Rattle.create.specs.Create.{freshState, freshImage}
 use Rattle.recovery.specs.Recovery.{wipeOutcome}
-use Rattle.well.proofs.Facts.{well-kept}
 use Rattle.contracts.proofs.Cases.{done-is}
 use Rattle.contracts.proofs.Begins.{fresh-sized}
 use Rattle.contracts.proofs.Created.{fresh-well}

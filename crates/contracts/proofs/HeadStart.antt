@@ -6,6 +6,7 @@ use native.Mathlib.Omega.{arith}
 use lib.ListN.{length, getD, take, drop, length-drop, length-take}
 use lib.Seq.{getD-take}
 use Rattle.metadata.proofs.Below.{below-at}
+use Rattle.table.specs.Modes.{inRoll, hasH}
 use Rattle.slots.specs.Entries.{lsnNos, among}
 use Rattle.slots.specs.Word.{isFree}
 use Rattle.slots.proofs.Order.{rising-above, rising-drop}
@@ -14,12 +15,11 @@ use Rattle.slots.proofs.Words.{at-word, none-at}
 use Rattle.slots.proofs.Free.{free-kept}
 use Rattle.state.specs.declared.State.{State}
 use Rattle.state.specs.State.{slotsIn, startsIn, lastStart}
-use Rattle.table.specs.Modes.{inRoll, hasH}
-use Rattle.head.specs.Start.{leaving, headedState}
 use Rattle.well.proofs.Facts.{Well, Listed, Headed, Placed, Pending, Roll, differ}
+use Rattle.outcome.proofs.Modes.{mode-before, mode-after}
+use Rattle.head.specs.Start.{leaving, headedState}
 use Rattle.head.proofs.Heads.{Heads, some-stay}
 use Rattle.contracts.proofs.Rest.{no-roll}
-use Rattle.outcome.proofs.Modes.{mode-before, mode-after}
 use Rattle.contracts.proofs.Relisted.{slots-many, starts-many, slots-listed, starts-listed, relisted, reunused, remade}
 use Rattle.contracts.proofs.Leaves.{left-first, left-second, left-last, below-drop}
 

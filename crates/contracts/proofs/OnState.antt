@@ -3,12 +3,12 @@
 use Prim.Native.Nat.{ℕ}
 use mathlib.Core.Path.{_≡_, refl, sym, _∙_}
 use mathlib.Core.List.{List}
-use mathlib.Core.Bool.{Bool, true, false}
+use mathlib.Core.Bool.{true, false}
 use native.Mathlib.Omega.{arith}
 use lib.ListN.{length}
 use Rattle.refusals.proofs.First.{none-refuses}
-use Rattle.metadata.specs.Metadata.{sizesOk}
 use Rattle.medium.specs.Store.{Store}
+use Rattle.metadata.specs.Metadata.{sizesOk}
 use Rattle.table.specs.declared.Step.{Step}
 use Rattle.table.specs.declared.Step.the-variants.{Wipe, Mark, Append, RollBegin, RollWrite, RollList, HeadStart, HeadFinish, TailStart, TailFinish}
 use Rattle.table.specs.declared.Step.the-variants.{Close, Read}

@@ -7,7 +7,6 @@ use lib.Dec.{eqb}
 use lib.ListN.{length}
 use Rattle.refusals.specs.Order.{when}
 use Rattle.scan.specs.Scan.{Scan, refused, opened, scan}
-use Rattle.state.specs.declared.State.{State}
 use Rattle.state.specs.declared.Answer.{Answer}
 use Rattle.state.specs.State.{answer}
 use Rattle.state.specs.Change.{zeroState}

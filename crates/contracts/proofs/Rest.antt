@@ -1,10 +1,10 @@
 -- A state with no pending slot, and a state with no roll.
 use mathlib.Core.Path.{_≡_}
 use mathlib.Core.Bool.{false}
+use Rattle.table.specs.Modes.{inRoll}
 use Rattle.slots.specs.Word.{bitAt}
 use Rattle.slots.proofs.Words.{none-at}
 use Rattle.state.specs.declared.State.{State}
-use Rattle.table.specs.Modes.{inRoll}
 use Rattle.well.proofs.Facts.{Pending, Resting, Roll, differ}
 
 pub none-pending : (g : State) → g .pending ≡ 0 → Pending g

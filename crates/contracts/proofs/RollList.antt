@@ -8,6 +8,8 @@ use native.Mathlib.Omega.{arith}
 use borrow.Author.Tests.{ne-eqb}
 use lib.ListN.{length, getD, drop, length-append, length-drop, List·getD-append}
 use lib.Seq.{drop-append-le, getD-append-seam}
+use Rattle.table.specs.declared.Step.the-variants.{RollList}
+use Rattle.table.specs.Modes.{inRoll, hasH}
 use Rattle.slots.specs.Entries.{among, leading, rising}
 use Rattle.slots.specs.Word.{bitAt, isFree}
 use Rattle.slots.proofs.Front.{leading-le}
@@ -16,15 +18,13 @@ use Rattle.slots.proofs.Members.{among-append, among-drop, distinct-drop, disti
 use Rattle.slots.proofs.Another.{below-snoc}
 use Rattle.slots.proofs.Words.{none-at}
 use Rattle.slots.proofs.Free.{Free, free-kept, free-says}
-use Rattle.table.specs.declared.Step.the-variants.{RollList}
 use Rattle.state.specs.declared.State.{State}
 use Rattle.state.specs.State.{slotsIn, startsIn, lastStart}
-use Rattle.table.specs.Modes.{inRoll, hasH}
-use Rattle.roll.specs.List.{ended, rolledState}
 use Rattle.well.proofs.Facts.{Well, Listed, Headed, Placed, Pending, Rolling, differ}
 use Rattle.outcome.proofs.Calls.{Entered}
-use Rattle.contracts.proofs.Rest.{no-roll}
 use Rattle.outcome.proofs.Modes.{mode-keeps, mode-before, mode-after}
+use Rattle.roll.specs.List.{ended, rolledState}
+use Rattle.contracts.proofs.Rest.{no-roll}
 use Rattle.contracts.proofs.Relisted.{slots-many, starts-many, slots-listed, starts-listed, relisted, reunused, remade}
 use Rattle.contracts.proofs.Leaves.{left-first, left-second, below-drop}
 

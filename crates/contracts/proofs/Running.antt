@@ -4,21 +4,20 @@ use mathlib.Core.Path.{_≡_, refl}
 use mathlib.Core.Bool.{false}
 use mathlib.Core.List.{List, []}
 use borrow.Author.Tests.{leb-true}
-use Rattle.metadata.proofs.Samples.{freshBytes}
 use Rattle.medium.specs.Store.{count, laid}
 use Rattle.medium.proofs.Laws.{laid-wipe}
+use Rattle.metadata.proofs.Samples.{freshBytes}
 use Rattle.stores.specs.Stores.{metadataStore}
-use Rattle.scan.specs.Scan.{scan}
 use Rattle.table.specs.declared.Mode.the-variants.{Opened, Wiped}
+use Rattle.scan.specs.Scan.{scan}
 use Rattle.state.specs.Change.{inMode}
-use Rattle.outcome.specs.Outcome.{Outcome}
 use Rattle.state.specs.State.{answer, metadataOf}
+use Rattle.outcome.specs.Outcome.{Outcome}
 use Rattle.create.specs.Create.{freshImage}
-use Rattle.recovery.specs.Recovery.{openAnswer}
-use Rattle.recovery.specs.Recovery.{wipeOutcome, markOutcome}
 use Rattle.create.proofs.Laying.{front-whole}
-use Rattle.contracts.proofs.Computing.{computing}
+use Rattle.recovery.specs.Recovery.{openAnswer, wipeOutcome, markOutcome}
 use Rattle.contracts.specs.Samples.{at, image}
+use Rattle.contracts.proofs.Computing.{computing}
 
 -- the image that a call's whole store leaves
 abbrev pub left : Outcome → List ℕ → List ℕ

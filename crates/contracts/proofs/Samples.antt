@@ -5,16 +5,16 @@ use mathlib.Core.Bool.{false}
 use mathlib.Core.List.{List, [], _∷_, _++_}
 use borrow.Author.Tests.{leb-true}
 use lib.ListN.{take, drop}
-use Rattle.record.specs.Record.{recordBytes}
-use Rattle.metadata.proofs.Samples.{freshBytes}
 use Rattle.medium.specs.Store.{laid}
 use Rattle.medium.proofs.Laws.{laid-front}
+use Rattle.record.specs.Record.{recordBytes}
+use Rattle.metadata.proofs.Samples.{freshBytes}
 use Rattle.stores.specs.Stores.{recordStore, metadataStore}
 use Rattle.scan.specs.Scan.{scan}
 use Rattle.state.specs.State.{metadataOf}
+use Rattle.create.proofs.Laying.{front-whole}
 use Rattle.recovery.specs.Recovery.{openAnswer}
 use Rattle.tail.specs.Start.{withdrawnState}
-use Rattle.create.proofs.Laying.{front-whole}
 use Rattle.contracts.specs.Samples.{at, image, one, found, Holds, table}
 use Rattle.contracts.proofs.Computing.{computing}
 

@@ -3,9 +3,8 @@ use Prim.Native.Nat.{ℕ}
 use mathlib.Core.Path.{_≡_, refl}
 use mathlib.Core.List.{List}
 use Rattle.numbers.specs.Numbers.{Bytes}
-use Rattle.scan.specs.Scan.{Scan, refused, opened, scan}
 use Rattle.table.specs.declared.Mode.the-variants.{Closed}
-use Rattle.state.specs.declared.State.{State}
+use Rattle.scan.specs.Scan.{Scan, refused, opened, scan}
 use Rattle.well.proofs.Facts.{well-kept}
 use Rattle.create.specs.Create.{freshState}
 use Rattle.recovery.specs.Recovery.{openAnswer}

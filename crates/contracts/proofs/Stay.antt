@@ -7,26 +7,26 @@ use Rattle.table.specs.Next.{lines}
 use Rattle.table.specs.declared.Mode.{Mode}
 use Rattle.table.specs.declared.Step.{Step}
 use Rattle.table.specs.declared.Step.the-variants.{Append, HeadFinish, Close}
+use Rattle.table.specs.Modes.{inRoll, hasH}
 use Rattle.table.proofs.Rule.{all}
 use Rattle.slots.specs.Word.{isFree}
 use Rattle.slots.proofs.Words.{none-at}
 use Rattle.slots.proofs.Free.{Free, free-kept, free-says, free-lowest}
 use Rattle.state.specs.declared.State.{State}
 use Rattle.state.specs.State.{slotsIn, heldIn}
-use Rattle.table.specs.Modes.{inRoll, hasH}
 use Rattle.state.specs.Change.{inMode, tailAt, marking, pendingAt, rolling}
 use Rattle.well.specs.Well.{same}
-use Rattle.outcome.specs.Enter.{modeAfter}
-use Rattle.head.specs.Finish.{unpendedState}
-use Rattle.close.specs.Close.{closedState}
-use Rattle.roll.specs.Begin.{lowestFree, begunState}
 use Rattle.well.proofs.Facts.{Well, Placed, Pending, Roll, differ}
+use Rattle.outcome.specs.Enter.{modeAfter}
 use Rattle.outcome.proofs.Calls.{Entered}
+use Rattle.outcome.proofs.Modes.{mode-keeps, mode-before, mode-after}
 use Rattle.append.specs.Append.{grownState}
 use Rattle.append.proofs.Appends.{Appends}
+use Rattle.roll.specs.Begin.{lowestFree, begunState}
 use Rattle.roll.proofs.Rolls.{Begins}
+use Rattle.head.specs.Finish.{unpendedState}
+use Rattle.close.specs.Close.{closedState}
 use Rattle.contracts.proofs.Rest.{none-pending, no-roll}
-use Rattle.outcome.proofs.Modes.{mode-keeps, mode-before, mode-after}
 
 -- ---- the state with another mode, tail, write place, last tail LSN, pending word and roll
 

@@ -12,22 +12,22 @@ use Rattle.refusals.proofs.First.{none-refuses, must-holds}
 use Rattle.numbers.proofs.Tests.{both}
 use Rattle.extent.specs.Extent.{payloads, sizes}
 use Rattle.extent.proofs.Count.{nine-each}
+use Rattle.table.specs.declared.Step.the-variants.{TailStart}
+use Rattle.table.specs.Modes.{inRoll, hasH}
 use Rattle.slots.specs.Entries.{slotNos}
 use Rattle.slots.proofs.Front.{leading-below, leading-all}
 use Rattle.slots.proofs.Order.{rising-above, rising-take}
 use Rattle.slots.proofs.Members.{distinct-take}
-use Rattle.table.specs.declared.Step.the-variants.{TailStart}
 use Rattle.state.specs.declared.State.{State}
 use Rattle.state.specs.State.{slotsIn, startsIn, lastStart}
-use Rattle.table.specs.Modes.{inRoll, hasH}
-use Rattle.walk.specs.Walk.{liveRule, upTo, startOf, extentAt, walkedTo}
-use Rattle.tail.specs.Start.{tailStartRules, tailStartNumber, withdrawnState}
 use Rattle.well.proofs.Facts.{Well, Listed, Headed, Marked, Placed}
 use Rattle.outcome.proofs.Calls.{Entered, entered}
-use Rattle.head.proofs.Heads.{below-front}
-use Rattle.walk.proofs.Walks.{up-to-le, place-inside}
-use Rattle.contracts.proofs.Rest.{none-pending, no-roll}
 use Rattle.outcome.proofs.Modes.{mode-before, mode-after}
+use Rattle.head.proofs.Heads.{below-front}
+use Rattle.walk.specs.Walk.{liveRule, upTo, startOf, extentAt, walkedTo}
+use Rattle.walk.proofs.Walks.{up-to-le, place-inside}
+use Rattle.tail.specs.Start.{tailStartRules, tailStartNumber, withdrawnState}
+use Rattle.contracts.proofs.Rest.{none-pending, no-roll}
 use Rattle.contracts.proofs.Relisted.{slots-many, starts-many, starts-listed, relisted, reunused, remade}
 
 -- ---- a done tail start: what its numbers leave known

@@ -3,12 +3,13 @@ use Prim.Native.Nat.{ℕ, _+_, _-_, _≤_, _<_}
 use mathlib.Core.Path.{_≡_}
 use mathlib.Core.List.{List, []}
 use lib.ListN.{getD}
+use Rattle.refusals.specs.Refusals.{DONE}
 use Rattle.metadata.specs.Layout.{slotPlace}
 use Rattle.slots.specs.Word.{count}
 use Rattle.state.specs.declared.State.{State}
 use Rattle.state.specs.declared.Answer.{Answer}
 use Rattle.state.specs.State.{writeSlot, freeIn}
-use Rattle.outcome.specs.Outcome.{Outcome, Did}
+use Rattle.outcome.specs.Outcome.{Did}
 use Rattle.counts.specs.declared.Counts.{Counts}
 use Rattle.read.specs.declared.Reading.{Reading}
 use Rattle.read.specs.Read.{readAnswer}
@@ -31,7 +32,7 @@ Excluded c Kind = (f : Program) → Meets c f → Kind f → ⊥
 -- ---- a log that refuses everything
 
 abbrev pub Refuses : Program → Type 0
-Refuses f = (g : State) (l : List ℕ) → f g l .0 .number ≡ 0 → ⊥
+Refuses f = (g : State) (l : List ℕ) → f g l .0 .number ≡ DONE → ⊥
 
 -- each step is done somewhere, so no step may always refuse
 pub record RefusesEverythingExcluded : Type 0 where
@@ -46,20 +47,20 @@ pub record RefusesEverythingExcluded : Type 0 where
   pub tail-start : Excluded (tailStarts 1) Refuses
   pub tail-finish : Excluded tailFinishes Refuses
   pub close : Excluded closes Refuses
-  pub read : (f : State → List ℕ → Reading) → ((g : State) (l : List ℕ) → f g l ≡ readAnswer g l 1) → ((g : State) (l : List ℕ) → f g l .number ≡ 0 → ⊥) → ⊥
+  pub read : (f : State → List ℕ → Reading) → ((g : State) (l : List ℕ) → f g l ≡ readAnswer g l 1) → ((g : State) (l : List ℕ) → f g l .number ≡ DONE → ⊥) → ⊥
 
 -- nor may open: what create leaves opens
 unfoldable pub OpenRefusesEverythingExcluded : Type 0
 OpenRefusesEverythingExcluded =
     (f : List ℕ → Answer)
     → ((l : List ℕ) → OpenContract l (f l))
-    → ((l : List ℕ) → f l .number ≡ 0 → ⊥)
+    → ((l : List ℕ) → f l .number ≡ DONE → ⊥)
     → ⊥
 
 -- ---- a log that answers 0 and stores nothing
 
 abbrev pub StoresNothing : Program → Type 0
-StoresNothing f = (g : State) (l : List ℕ) → f g l .0 .number ≡ 0 → f g l .1 ≡ l
+StoresNothing f = (g : State) (l : List ℕ) → f g l .0 .number ≡ DONE → f g l .1 ≡ l
 
 unfoldable pub StoresNothingExcluded : Type 0
 StoresNothingExcluded = Excluded (appends []) StoresNothing
@@ -67,7 +68,7 @@ StoresNothingExcluded = Excluded (appends []) StoresNothing
 -- ---- a log that always gives one fixed state
 
 abbrev pub GivesOneState : Program → Type 0
-GivesOneState f = (n : State) × ((g : State) (l : List ℕ) → f g l .0 .number ≡ 0 → f g l .0 .log ≡ n)
+GivesOneState f = (n : State) × ((g : State) (l : List ℕ) → f g l .0 .number ≡ DONE → f g l .0 .log ≡ n)
 
 unfoldable pub OneStateExcluded : Type 0
 OneStateExcluded = Excluded wipes GivesOneState
@@ -77,7 +78,7 @@ OpenOneStateExcluded =
     (f : List ℕ → Answer)
     → ((l : List ℕ) → OpenContract l (f l))
     → (n : State)
-    → ((l : List ℕ) → f l .number ≡ 0 → f l .log ≡ n)
+    → ((l : List ℕ) → f l .number ≡ DONE → f l .log ≡ n)
     → ⊥
 
 -- ---- a tail start that also wipes, leaving tail finish to pretend
@@ -87,7 +88,7 @@ abbrev pub ZeroBehind : Answer → List ℕ → Type 0
 ZeroBehind a l = (i : ℕ) → a .log .place ≤ i → i < a .log .e → getD l (slotPlace (a .log .e) (writeSlot (a .log)) + i) 0 ≡ 0
 
 abbrev pub AlsoWipes : Program → Type 0
-AlsoWipes f = (g : State) (l : List ℕ) → f g l .0 .number ≡ 0 → ZeroBehind (f g l .0) (f g l .1)
+AlsoWipes f = (g : State) (l : List ℕ) → f g l .0 .number ≡ DONE → ZeroBehind (f g l .0) (f g l .1)
 
 unfoldable pub WipingTailStartExcluded : Type 0
 WipingTailStartExcluded = Excluded (tailStarts 1) AlsoWipes
@@ -100,7 +101,7 @@ InventedCountsExcluded =
     (f : State → Counts)
     → ((g : State) → CountsContract g (f g))
     → (g : State)
-    → f g .number ≡ 0
+    → f g .number ≡ DONE
     → ((f g .free ≡ count (freeIn g) 64) × (f g .live ≡ g .tail .0 - g .head .0) → ⊥)
     → ⊥
 
@@ -110,4 +111,4 @@ FixedCountsExcluded =
     (f : State → Counts)
     → ((g : State) → CountsContract g (f g))
     → (c : ℕ)
-    → (((g : State) → f g .number ≡ 0 → f g .free ≡ c) → ⊥) × (((g : State) → f g .number ≡ 0 → f g .live ≡ c) → ⊥)
+    → (((g : State) → f g .number ≡ DONE → f g .free ≡ c) → ⊥) × (((g : State) → f g .number ≡ DONE → f g .live ≡ c) → ⊥)

@@ -5,13 +5,13 @@ use mathlib.Core.Path.{_≡_}
 use mathlib.Core.List.{List, [], _∷_, _++_, map}
 use lib.ListN.{length, take, set}
 use Rattle.numbers.specs.Numbers.{zeros}
+use Rattle.medium.specs.Store.{laid}
 use Rattle.record.specs.Record.{recordBytes}
 use Rattle.extent.specs.Extent.{headerBytes}
 use Rattle.metadata.specs.Layout.{areaLength}
 use Rattle.metadata.proofs.Samples.{freshBytes}
-use Rattle.medium.specs.Store.{laid}
-use Rattle.scan.specs.Scan.{scan}
 use Rattle.table.specs.declared.Mode.the-variants.{Run}
+use Rattle.scan.specs.Scan.{scan}
 use Rattle.state.specs.declared.State.{State}
 use Rattle.state.specs.declared.Answer.{Answer}
 use Rattle.state.specs.State.{longest}

@@ -1,12 +1,9 @@
 -- The mirror loses nothing: a log comes back from its mirror, a state with a known mode from its log, and every mirror of a log
 -- has a known mode.
-use Prim.Native.Nat.{ℕ, _<_}
 use mathlib.Core.Path.{_≡_}
-use mathlib.Core.Bool.{true, not}
-use borrow.Author.Tests.{ltb-true, lt-ltb, eqb-true, not-false}
-use lib.Dec.{eqb}
+use mathlib.Core.Bool.{true}
+use borrow.Author.Tests.{ltb-true, lt-ltb}
 use Rattle.table.specs.Next.{modeNo}
-use Rattle.table.specs.declared.Mode.{Mode}
 use Rattle.table.proofs.Rule.{mode-below, mode-back, number-back}
 use Rattle.state.specs.declared.State.{State as Log}
 use Rattle.embed.specs.declared.State.{State}

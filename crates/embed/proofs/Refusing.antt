@@ -9,14 +9,13 @@ use Rattle.refusals.specs.Order.{when}
 use Rattle.medium.specs.Store.{count, laid}
 use Rattle.metadata.specs.Metadata.{sizesOk}
 use Rattle.scan.specs.Scan.{scan}
-use Rattle.state.specs.declared.State.{State as Log}
+use Rattle.state.specs.Change.{zeroState}
 use Rattle.outcome.specs.Outcome.{Outcome, answerOf}
 use Rattle.outcome.specs.Enter.{sized}
-use Rattle.state.specs.Change.{zeroState}
+use Rattle.counts.specs.Counts.{countsOf}
 use Rattle.create.specs.Create.{createAnswer, createImage}
 use Rattle.recovery.specs.Recovery.{openAnswer}
 use Rattle.read.specs.Read.{readAnswer}
-use Rattle.counts.specs.Counts.{countsOf}
 use Rattle.contracts.specs.Call.{Call, headFinishes, isOpen, does}
 use Rattle.contracts.specs.Contracts.{RefusedReadShowsNothing, RefusedCountsReportNothing}
 use Rattle.contracts.proofs.OnState.{state-call}

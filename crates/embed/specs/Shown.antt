@@ -4,11 +4,11 @@ use mathlib.Core.List.{List}
 use lib.ListN.{length}
 use Rattle.refusals.specs.Order.{when}
 use Rattle.metadata.specs.Metadata.{sizesOk}
-use Rattle.read.specs.declared.Reading.{Reading as LogReading}
-use Rattle.counts.specs.declared.Counts.{Counts}
 use Rattle.outcome.specs.Enter.{sized}
-use Rattle.read.specs.Read.{readAnswer}
+use Rattle.counts.specs.declared.Counts.{Counts}
 use Rattle.counts.specs.Counts.{countsOf}
+use Rattle.read.specs.declared.Reading.{Reading as LogReading}
+use Rattle.read.specs.Read.{readAnswer}
 use Rattle.embed.specs.declared.State.{State}
 use Rattle.embed.specs.declared.Reading.{Reading}
 use Rattle.embed.specs.declared.Report.{Report}

@@ -1,7 +1,7 @@
 // What a call answers where the mode's byte is none of the ten: the state is malformed, and the size comes first as everywhere.
 ghost use mathlib.Core.Path.{_≡_};
-ghost use Rattle.embed.specs.Told.{answer, unknownNumber};
 ghost use Rattle.outcome.specs.Enter.{sized};
+ghost use Rattle.embed.specs.Told.{answer, unknownNumber};
 use crate::Answer;
 use crate::State;
 

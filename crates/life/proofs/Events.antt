@@ -10,8 +10,8 @@ use lib.Dec.{leb, eqb}
 use Rattle.medium.specs.Store.{Store, count, laid, arrives, through}
 use Rattle.medium.specs.declared.Kind.{Kind}
 use Rattle.medium.specs.declared.Kind.the-variants.{Metadata, Record, Wipe}
-use Rattle.well.specs.Well.{wellFormed}
 use Rattle.state.specs.Change.{zeroState}
+use Rattle.well.specs.Well.{wellFormed}
 use Rattle.contracts.specs.Call.{Call, opens}
 use Rattle.contracts.proofs.OnState.{OnState, OpenOr, is-open, others, open-or}
 use Rattle.life.specs.Life.{History, World, Event, call, cut, dark, opening, called, cutAfter, step}

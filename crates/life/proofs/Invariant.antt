@@ -11,15 +11,15 @@ use mathlib.Core.Bool.{Bool, true, false}
 use mathlib.Core.List.{List, [], _∷_}
 use lib.ListN.{length}
 use Rattle.numbers.specs.Numbers.{zeros}
-use Rattle.slots.specs.Entries.{lsn, lsnArray}
-use Rattle.scan.specs.Scan.{Extent, slotPart}
 use Rattle.table.specs.declared.Mode.{Mode}
 use Rattle.table.specs.declared.Mode.the-variants.{Opened, Wiped, Run, Zeroed, Written, Tail, RunH, ZeroedH, WrittenH}
 use Rattle.table.specs.Next.{oneOf}
+use Rattle.slots.specs.Entries.{lsn, lsnArray}
+use Rattle.scan.specs.Scan.{Extent, slotPart}
 use Rattle.state.specs.declared.State.{State}
 use Rattle.state.specs.Change.{inMode, pendingAt, rolling}
-use Rattle.recovery.specs.Recovery.{foundState}
 use Rattle.well.specs.Well.{wellFormed}
+use Rattle.recovery.specs.Recovery.{foundState}
 use Rattle.life.specs.Life.{History, World}
 use Rattle.life.proofs.Book.{Book, Constants, constants, tail, placeIn, bookStarts, metadataIn, writePart, Clean, liveIn, SoundBook, Keeps}
 

@@ -8,16 +8,16 @@ use borrow.Author.Tests.{eqb-false}
 use lib.Dec.{eqb}
 use lib.ListN.{getD}
 use Rattle.numbers.specs.Numbers.{zeros}
-use Rattle.record.specs.Record.{recordBytes}
 use Rattle.medium.specs.Store.{laidOne, laidFirst, laid, arrives}
+use Rattle.record.specs.Record.{recordBytes}
 use Rattle.stores.specs.Stores.{extentBytes}
 use Rattle.scan.specs.Scan.{scan}
 use Rattle.scan.specs.Answers.{openingOf}
 use Rattle.state.specs.declared.Answer.{Answer}
 use Rattle.recovery.specs.Recovery.{openAnswer}
-use Rattle.contracts.proofs.Computing.{computing}
 use Rattle.contracts.specs.Call.{Call, opens, wipes, marks, appends, rollBegins, rollWrites, rollLists, headStarts, headFinishes, tailStarts}
 use Rattle.contracts.specs.Call.{tailFinishes, does}
+use Rattle.contracts.proofs.Computing.{computing}
 use Rattle.life.specs.Life.{World, Event, call, cut, dark, step, lives, created, Found}
 use Rattle.life.specs.Follows.{endIn}
 

@@ -6,12 +6,13 @@ use mathlib.Core.Bool.{true}
 use mathlib.Core.Logic.{_⊎_}
 use mathlib.Core.List.{List, [], _∷_}
 use lib.ListN.{length, getD}
-use Rattle.metadata.specs.Metadata.{sizesOk}
+use Rattle.refusals.specs.Refusals.{DONE, SIZE, MALFORMED, NOT-FOUND}
 use Rattle.medium.specs.Store.{count}
-use Rattle.scan.specs.Scan.{Scan, refused, opened, scan}
+use Rattle.metadata.specs.Metadata.{sizesOk}
 use Rattle.table.specs.Next.{nextOf}
 use Rattle.table.specs.declared.Mode.the-variants.{Run}
 use Rattle.table.specs.declared.Step.the-variants.{Read}
+use Rattle.scan.specs.Scan.{Scan, refused, opened, scan}
 use Rattle.outcome.specs.Enter.{leads}
 use Rattle.read.specs.Read.{readAnswer, shown}
 use Rattle.contracts.specs.Call.{Call, opens, wipes, marks, appends, rollLists, headStarts, tailStarts, does}
@@ -52,8 +53,8 @@ endIn y = y .head + length (y .payloads)
 
 -- it is a call of c that is done, and all of the call's store has arrived: no power cut, or one that comes too late
 pub data Decides (w : World) (c : Call) : Event → Type 0 where
-  whole : does c (w .log) (w .image) .number ≡ 0 → Decides w c (call c)
-  late : {k : ℕ} → does c (w .log) (w .image) .number ≡ 0 → count (does c (w .log) (w .image) .store) ≤ k → Decides w c (cut c k)
+  whole : does c (w .log) (w .image) .number ≡ DONE → Decides w c (call c)
+  late : {k : ℕ} → does c (w .log) (w .image) .number ≡ DONE → count (does c (w .log) (w .image) .store) ≤ k → Decides w c (cut c k)
 
 -- it adds a record with payload p at the end
 pub data Adds (p : List ℕ) (w : World) (v : Event) : Type 0 where
@@ -117,7 +118,7 @@ AddedStays =
 -- ---- answers
 
 abbrev pub OneTwoOrFifteen : ℕ → Type 0
-OneTwoOrFifteen k = (k ≡ 1) ⊎ (k ≡ 2) ⊎ (k ≡ 15)
+OneTwoOrFifteen k = (k ≡ SIZE) ⊎ (k ≡ MALFORMED) ⊎ (k ≡ NOT-FOUND)
 
 -- with a state in hand, not one lost in a cut and not yet opened again, no call answers 1, 2 or 15
 unfoldable pub NeverMalformed : Type 0
@@ -131,7 +132,7 @@ NeverMalformed =
 
 -- in hand or not, open answers 0
 unfoldable pub AlwaysOpens : Type 0
-AlwaysOpens = (w : World) → InLife w → does opens (w .log) (w .image) .number ≡ 0
+AlwaysOpens = (w : World) → InLife w → does opens (w .log) (w .image) .number ≡ DONE
 
 -- ---- recovery: open, wipe, mark
 
@@ -163,9 +164,9 @@ runsAgain w = step (call marks) (wipedAgain w)
 
 -- each of the three answers 0, and the log runs, with its state in hand and the history that it had
 pub record Recovers (w : World) : Type 0 where
-  pub open-answers : does opens (w .log) (w .image) .number ≡ 0
-  pub wipe-answers : does wipes (openedAgain w .log) (openedAgain w .image) .number ≡ 0
-  pub mark-answers : does marks (wipedAgain w .log) (wipedAgain w .image) .number ≡ 0
+  pub open-answers : does opens (w .log) (w .image) .number ≡ DONE
+  pub wipe-answers : does wipes (openedAgain w .log) (openedAgain w .image) .number ≡ DONE
+  pub mark-answers : does marks (wipedAgain w .log) (wipedAgain w .image) .number ≡ DONE
   pub runs : runsAgain w .log .mode ≡ Run
   pub in-hand : runsAgain w .held ≡ true
   pub same : runsAgain w .history ≡ w .history
@@ -182,7 +183,7 @@ Reads w y =
     (x : ℕ)
     → y .head ≤ x
     → x < endIn y
-    → (readAnswer (w .log) (w .image) x .number ≡ 0) × (shown (readAnswer (w .log) (w .image) x) (w .image) ≡ getD (y .payloads) (x - y .head) [])
+    → (readAnswer (w .log) (w .image) x .number ≡ DONE) × (shown (readAnswer (w .log) (w .image) x) (w .image) ≡ getD (y .payloads) (x - y .head) [])
 
 -- in every mode that admits it
 unfoldable pub ReadsShow : Type 0

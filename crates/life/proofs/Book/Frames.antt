@@ -11,15 +11,15 @@ use borrow.Author.Tests.{lt-leb, eqb-false, ne-eqb}
 use lib.Dec.{eqb}
 use lib.ListN.{length, take, drop}
 use lib.Seq.{take-at}
-use Rattle.metadata.specs.Layout.{imageLength}
-use Rattle.metadata.specs.Metadata.{metadataBytes}
-use Rattle.metadata.proofs.Stores.{metadata-length}
-use Rattle.metadata.specs.declared.Metadata.{Metadata}
-use Rattle.slots.specs.Entries.{among, distinct}
-use Rattle.slots.proofs.Members.{neither, among-append, distinct-cons}
 use Rattle.medium.specs.Store.{Store, count, laid, arrives}
 use Rattle.medium.proofs.Laws.{Apart, moved, laid-inside, laid-apart, laid-length, laid-none, laid-whole}
+use Rattle.metadata.specs.Layout.{imageLength}
+use Rattle.metadata.specs.Metadata.{metadataBytes}
+use Rattle.metadata.specs.declared.Metadata.{Metadata}
+use Rattle.metadata.proofs.Stores.{metadata-length}
 use Rattle.stores.specs.Stores.{metadataStore}
+use Rattle.slots.specs.Entries.{among, distinct}
+use Rattle.slots.proofs.Members.{neither, among-append, distinct-cons}
 use Rattle.scan.specs.Scan.{Extent, slotPart}
 use Rattle.scan.proofs.Within.{slot-within}
 use Rattle.life.proofs.Book.{Book, bookWith, bookSlots, metadataIn, writePart, Holds, SoundBook, Olds, Keeps}

@@ -12,6 +12,8 @@ use lib.ListN.{length, take, drop, length-append, length-take, length-replicate,
 use lib.Seq.{length-take-le, take-take, take-append-le, drop-drop, drop-at, drop-append-add}
 use Rattle.numbers.specs.Numbers.{zeros}
 use Rattle.numbers.proofs.Lists.{drop-zeros}
+use Rattle.medium.specs.Store.{count, wipeOf, laid}
+use Rattle.medium.proofs.Laws.{laid-front, laid-wipe, laid-whole, laid-past}
 use Rattle.record.specs.Record.{recordBytes, allowed}
 use Rattle.record.proofs.Exactly.{record-length}
 use Rattle.record.proofs.Facts.{allowed-old, allowed-now}
@@ -22,8 +24,6 @@ use Rattle.extent.proofs.Behind.{torn-behind, one-behind, wipe-walks}
 use Rattle.extent.proofs.Change.{tail-start-keeps, below-keeps, close-keeps}
 use Rattle.extent.proofs.Count.{walk-within}
 use Rattle.extent.proofs.Walked.{place-here, walk-stop}
-use Rattle.medium.specs.Store.{count, wipeOf, laid}
-use Rattle.medium.proofs.Laws.{laid-front, laid-wipe, laid-whole, laid-past}
 use Rattle.stores.specs.Stores.{recordStore, extentBytes, extentStore}
 use Rattle.stores.proofs.Bytes.{extent-length}
 use Rattle.scan.specs.Scan.{Extent, endOf}

@@ -1,6 +1,6 @@
 -- With a state in hand no call answers 1, 2 or 15: the sizes are the image's, the state is well formed, and every walk to a live LSN
 -- gets there.
-use Prim.Native.Nat.{ℕ, zero, suc, _+_, _*_}
+use Prim.Native.Nat.{ℕ, zero, suc, _+_}
 use mathlib.Core.Path.{_≡_, refl, sym, ap, _∙_}
 use mathlib.Core.Logic.{inl, inr}
 use mathlib.Core.List.{List}
@@ -12,34 +12,34 @@ use lib.ListN.{length}
 use Rattle.refusals.specs.Order.{must, firstOf}
 use Rattle.refusals.proofs.First.{first-stands, first-passes}
 use Rattle.numbers.proofs.Tests.{both}
+use Rattle.medium.specs.Store.{Store}
 use Rattle.metadata.specs.Layout.{imageLength}
 use Rattle.metadata.specs.Metadata.{sizesOk}
-use Rattle.slots.proofs.Members.{neither}
-use Rattle.medium.specs.Store.{Store}
 use Rattle.table.specs.Next.{nextOf}
 use Rattle.table.specs.declared.Step.{Step}
 use Rattle.table.specs.declared.Step.the-variants.{Wipe, Mark, Append, RollBegin, RollWrite, RollList, HeadStart, HeadFinish, TailStart, TailFinish}
 use Rattle.table.specs.declared.Step.the-variants.{Close, Read}
+use Rattle.slots.proofs.Members.{neither}
 use Rattle.state.specs.declared.State.{State}
 use Rattle.state.specs.State.{longest}
 use Rattle.outcome.specs.Outcome.{outcome}
 use Rattle.outcome.specs.Enter.{sized, leads, enterNumber}
-use Rattle.counts.specs.Counts.{countsNumber}
-use Rattle.walk.specs.Walk.{liveRule, walkedTo}
 use Rattle.outcome.specs.Rest.{restOutcome}
+use Rattle.counts.specs.Counts.{countsNumber}
 use Rattle.recovery.specs.Recovery.{markOutcome}
 use Rattle.append.specs.Append.{appendRules, appendNumber, appendOutcome}
-use Rattle.head.specs.Finish.{headFinishOutcome}
-use Rattle.close.specs.Close.{closeOutcome}
 use Rattle.roll.specs.Begin.{rollBeginRules, lowestFree, rollBeginNumber, rollBeginOutcome}
 use Rattle.roll.specs.Write.{rollWriteRules, rollWriteNumber, rollWriteOutcome}
 use Rattle.roll.specs.List.{rollListOutcome}
+use Rattle.head.specs.Finish.{headFinishOutcome}
 use Rattle.head.specs.Start.{headStartRules, headStartNumber, headStartOutcome}
+use Rattle.walk.specs.Walk.{liveRule, walkedTo}
 use Rattle.tail.specs.Start.{tailStartRules, tailStartNumber, tailStartOutcome}
+use Rattle.close.specs.Close.{closeOutcome}
 use Rattle.read.specs.Read.{readRules, readNumber, isRecord, recordAt}
-use Rattle.contracts.proofs.Cases.{number-is}
 use Rattle.contracts.specs.Call.{Call, opens, wipes, marks, appends, rollBegins, rollWrites, rollLists, headStarts, headFinishes, tailStarts}
 use Rattle.contracts.specs.Call.{tailFinishes, closes, reads, counts, does}
+use Rattle.contracts.proofs.Cases.{number-is}
 use Rattle.life.specs.Life.{History}
 use Rattle.life.specs.Follows.{OneTwoOrFifteen, NeverMalformed, AlwaysOpens}
 use Rattle.life.proofs.Book.{Book}

@@ -14,16 +14,16 @@ use Rattle.numbers.specs.Numbers.{part}
 use Rattle.record.specs.Record.{payloadAt}
 use Rattle.record.specs.declared.Found.the-variants.{Record}
 use Rattle.record.proofs.Facts.{says}
+use Rattle.metadata.specs.Layout.{slotPlace}
 use Rattle.table.specs.Next.{nextOf}
 use Rattle.table.specs.declared.Mode.{Mode}
 use Rattle.table.specs.declared.Mode.the-variants.{Run}
 use Rattle.table.specs.declared.Step.the-variants.{Read}
 use Rattle.state.specs.declared.State.{State}
-use Rattle.metadata.specs.Layout.{slotPlace}
 use Rattle.outcome.specs.Enter.{leads, enterNumber}
+use Rattle.head.proofs.Heads.{drop-take}
 use Rattle.walk.specs.Walk.{liveRule, slotOf, extentAt, walkedTo}
 use Rattle.read.specs.Read.{readRules, recordAt, sizeOf, readNumber, readAnswer, shown}
-use Rattle.head.proofs.Heads.{drop-take}
 use Rattle.contracts.specs.Call.{opens, wipes, marks}
 use Rattle.life.specs.Life.{History, World, call}
 use Rattle.life.specs.Follows.{endIn, openedAgain, wipedAgain, runsAgain, Reads, ReadsShow, ReadsAgain}

@@ -18,8 +18,8 @@ use Rattle.outcome.specs.Outcome.{Outcome}
 use Rattle.outcome.specs.Enter.{ledTo, enterNumber}
 use Rattle.outcome.specs.Rest.{restOutcome}
 use Rattle.recovery.specs.Recovery.{markOutcome}
-use Rattle.contracts.proofs.Cases.{number-is}
 use Rattle.contracts.specs.Call.{Call, opens, wipes, marks, does}
+use Rattle.contracts.proofs.Cases.{number-is}
 use Rattle.life.specs.Life.{History, happens, World, Event, call, cut, dark, recorded, step, lives}
 use Rattle.life.specs.Follows.{recordsIn, Recovering, opening, wiping, marking, Recovery, RecoveryAgain, openedAgain, wipedAgain, Recovers}
 use Rattle.life.specs.Follows.{NeverStuck}

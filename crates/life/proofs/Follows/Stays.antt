@@ -6,12 +6,12 @@ use mathlib.Core.List.{List, [], _∷_, _++_}
 use native.Mathlib.Omega.{arith}
 use lib.ListN.{length, length-append, length-take, length-drop}
 use Rattle.contracts.specs.Call.{Call, headStarts, tailStarts}
+use Rattle.contracts.proofs.OnState.{state-call}
 use Rattle.life.specs.Life.{happens, World, Event, step, lives, Record}
 use Rattle.life.specs.Follows.{shows, Among, recordsIn, endIn, Decides, Adds, appended, listed, Takes, Removes, released, withdrawn, Never}
 use Rattle.life.specs.Follows.{WithdrawnStaysOut, KeptStays, AddedStays}
 use Rattle.life.proofs.Book.{Constants}
 use Rattle.life.proofs.Invariant.{Inv}
-use Rattle.contracts.proofs.OnState.{state-call}
 use Rattle.life.proofs.Turns.Truncates.{head-within, tail-within}
 use Rattle.life.proofs.Events.{in-hand, event-inv}
 use Rattle.life.proofs.Lives.{inv-found, lives-inv, lived-inv}

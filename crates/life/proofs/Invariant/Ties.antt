@@ -6,8 +6,8 @@ use mathlib.Core.List.{[], map}
 use native.Mathlib.Omega.{arith}
 use lib.ListN.{length, length-map}
 use lib.Seq.{getD-at}
-use Rattle.state.specs.declared.State.{State}
 use Rattle.slots.specs.Entries.{slotArray, lsnArray}
+use Rattle.state.specs.declared.State.{State}
 use Rattle.state.specs.State.{slotsIn, startsIn, writeSlot, lastStart}
 use Rattle.contracts.proofs.Relisted.{slots-listed, starts-listed, remade}
 use Rattle.life.proofs.Book.{Book, tail, placeIn, bookSlots, bookStarts, SoundBook}

@@ -9,12 +9,12 @@ use lib.ListN.{length, getD}
 use Rattle.extent.specs.Extent.{sizes}
 use Rattle.extent.proofs.Count.{nine-each, walk-within}
 use Rattle.metadata.proofs.Facts.{sizes-say}
+use Rattle.table.specs.Modes.{inRoll}
 use Rattle.slots.specs.Entries.{rising}
 use Rattle.slots.proofs.Order.{cons-rising}
 use Rattle.scan.specs.Scan.{Extent, endOf}
 use Rattle.scan.proofs.Within.{slot-within, slot-length}
 use Rattle.state.specs.declared.State.{State}
-use Rattle.table.specs.Modes.{inRoll}
 use Rattle.well.specs.Well.{wellFormed}
 use Rattle.well.proofs.Facts.{Listed, Headed, Marked, Placed, Resting, Unused, well-kept}
 use Rattle.contracts.proofs.Relisted.{relisted, reunused}

@@ -6,20 +6,20 @@ use mathlib.Core.Bool.{true, false}
 use mathlib.Core.List.{List, [], _∷_, _++_, append-assoc}
 use native.Mathlib.Omega.{arith}
 use lib.ListN.{length, length-append}
-use Rattle.record.proofs.Exactly.{record-length}
 use Rattle.medium.specs.Store.{Store, count}
 use Rattle.medium.proofs.Laws.{moved, can-arrives}
+use Rattle.record.proofs.Exactly.{record-length}
 use Rattle.stores.specs.Stores.{recordStore}
-use Rattle.scan.specs.Scan.{Extent, endOf}
 use Rattle.table.specs.declared.Step.the-variants.{Append}
+use Rattle.scan.specs.Scan.{Extent, endOf}
 use Rattle.state.specs.declared.State.{State}
 use Rattle.state.specs.Change.{inMode, tailAt}
 use Rattle.state.specs.State.{writeAt}
-use Rattle.append.specs.Append.{grownState, appendOutcome}
-use Rattle.append.proofs.Appends as Facts
 use Rattle.outcome.specs.Enter.{modeAfter}
 use Rattle.outcome.proofs.Calls.{Entered}
 use Rattle.outcome.proofs.Modes.{mode-before}
+use Rattle.append.specs.Append.{grownState, appendOutcome}
+use Rattle.append.proofs.Appends as Facts
 use Rattle.contracts.specs.Call.{appends, does}
 use Rattle.life.specs.Life.{History, happens}
 use Rattle.life.proofs.Book.{Book, tail, placeIn, writePart, Clean, flat, liveIn, SoundBook}

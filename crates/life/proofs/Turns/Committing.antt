@@ -6,8 +6,8 @@ use mathlib.Core.Bool.{Bool, false}
 use mathlib.Core.List.{List}
 use native.Mathlib.Omega.{arith}
 use lib.ListN.{length}
-use Rattle.metadata.specs.declared.Metadata.{Metadata}
 use Rattle.medium.specs.Store.{count, laid}
+use Rattle.metadata.specs.declared.Metadata.{Metadata}
 use Rattle.stores.specs.Stores.{metadataStore}
 use Rattle.scan.specs.Scan.{slotPart}
 use Rattle.state.specs.declared.State.{State}

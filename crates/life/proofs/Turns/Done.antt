@@ -4,8 +4,8 @@ use mathlib.Core.Path.{_≡_, sym, ap, _∙_}
 use mathlib.Core.List.{List}
 use mathlib.Core.Bool.{Bool}
 use native.Mathlib.Omega.{arith}
-use Rattle.metadata.proofs.Facts.{sizes-say}
 use Rattle.medium.specs.Store.{Store}
+use Rattle.metadata.proofs.Facts.{sizes-say}
 use Rattle.stores.specs.Stores.{metadataStore}
 use Rattle.state.specs.declared.State.{State}
 use Rattle.state.specs.State.{metadataOf}

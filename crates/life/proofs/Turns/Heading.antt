@@ -10,8 +10,8 @@ use lib.Seq.{drop-drop}
 use Rattle.state.specs.declared.State.{State}
 use Rattle.state.specs.Change.{listing, headAt}
 use Rattle.state.specs.State.{slotsIn, startsIn}
-use Rattle.head.specs.Start.{leaving, headedState}
 use Rattle.outcome.proofs.Modes.{mode-before}
+use Rattle.head.specs.Start.{leaving, headedState}
 use Rattle.contracts.specs.Call.{headStarts}
 use Rattle.life.specs.Life.{History, happens}
 use Rattle.life.proofs.Book.{Book, bookWith, tail, bookSlots, bookStarts, bookStart, bookPayloads, liveIn, SoundBook}

@@ -10,19 +10,19 @@ use borrow.Author.Tests.{le-leb, lt-leb}
 use lib.ListN.{length, drop, length-append}
 use Rattle.extent.specs.Extent.{sizes}
 use Rattle.metadata.proofs.Facts.{sizes-say}
+use Rattle.table.specs.declared.Step.the-variants.{RollList}
+use Rattle.table.specs.Modes.{inRoll}
 use Rattle.slots.specs.Entries.{leading}
 use Rattle.slots.proofs.Free.{Free, free-says}
 use Rattle.scan.specs.Scan.{Extent}
-use Rattle.table.specs.declared.Step.the-variants.{RollList}
 use Rattle.state.specs.declared.State.{State}
 use Rattle.state.specs.Change.{listing, tailAt}
-use Rattle.outcome.specs.Enter.{enterNumber}
-use Rattle.roll.specs.List.{ended, rolledState, rollListOutcome}
 use Rattle.state.specs.State.{slotsIn, startsIn}
-use Rattle.table.specs.Modes.{inRoll}
-use Rattle.outcome.proofs.Calls.{Entered, entered}
 use Rattle.well.proofs.Facts.{Rolling}
+use Rattle.outcome.specs.Enter.{enterNumber}
+use Rattle.outcome.proofs.Calls.{Entered, entered}
 use Rattle.outcome.proofs.Modes.{mode-before}
+use Rattle.roll.specs.List.{ended, rolledState, rollListOutcome}
 use Rattle.contracts.specs.Call.{rollLists, does}
 use Rattle.life.specs.Life.{History, happens}
 use Rattle.life.proofs.Book.{Book, bookWith, tail, placeIn, slotList, startList, bookSlots, bookStarts, extents, firstStart, flat, liveIn}

@@ -6,14 +6,14 @@ use mathlib.Core.Bool.{Bool, true, false}
 use mathlib.Core.List.{List, [], _∷_}
 use native.Mathlib.Omega.{arith}
 use lib.ListN.{length}
-use Rattle.scan.specs.Scan.{Extent, endOf, slotPart}
 use Rattle.table.specs.declared.Step.the-variants.{Mark, Close}
+use Rattle.scan.specs.Scan.{Extent, endOf, slotPart}
 use Rattle.state.specs.declared.State.{State}
 use Rattle.state.specs.Change.{marking}
-use Rattle.recovery.specs.Recovery.{markOutcome}
-use Rattle.close.specs.Close.{closedState, closeOutcome}
 use Rattle.outcome.proofs.Calls.{entered}
 use Rattle.outcome.proofs.Modes.{mode-before}
+use Rattle.recovery.specs.Recovery.{markOutcome}
+use Rattle.close.specs.Close.{closedState, closeOutcome}
 use Rattle.contracts.specs.Call.{marks, closes, does}
 use Rattle.life.specs.Life.{History}
 use Rattle.life.proofs.Book.{Book, bookWith, tail, writePart, Joined, Olds}

@@ -5,9 +5,9 @@ use mathlib.Core.Path.{refl, sym, _∙_}
 use lib.ListN.{length}
 use Rattle.stores.specs.Stores.{noStore}
 use Rattle.table.specs.declared.Step.the-variants.{HeadFinish}
-use Rattle.head.specs.Finish.{headFinishOutcome}
 use Rattle.outcome.proofs.Calls.{entered}
 use Rattle.outcome.proofs.Modes.{mode-keeps}
+use Rattle.head.specs.Finish.{headFinishOutcome}
 use Rattle.contracts.specs.Call.{headFinishes, reads, counts, does}
 use Rattle.life.proofs.Invariant.{wipedIn, markedIn, zeroedIn, writtenIn}
 use Rattle.life.proofs.Turns.Done.{done, outcome-done}

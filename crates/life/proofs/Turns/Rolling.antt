@@ -8,27 +8,27 @@ use native.Mathlib.Nat.{add-zero}
 use native.Mathlib.Omega.{arith}
 use lib.ListN.{length, length-replicate, drop-of-length-le}
 use Rattle.numbers.specs.Numbers.{zeros}
-use Rattle.metadata.proofs.Facts.{sizes-say}
-use Rattle.slots.specs.Entries.{among}
-use Rattle.slots.proofs.Free.{free-says, free-lowest}
 use Rattle.medium.specs.Store.{Store, count, wipeOf, laid, arrives}
 use Rattle.medium.proofs.Laws.{moved, laid-whole}
+use Rattle.metadata.specs.Layout.{slotPlace}
+use Rattle.metadata.proofs.Facts.{sizes-say}
 use Rattle.stores.specs.Stores.{extentStore}
 use Rattle.stores.proofs.Bytes.{extent-length}
+use Rattle.table.specs.declared.Step.the-variants.{RollWrite}
+use Rattle.table.specs.Modes.{inRoll}
+use Rattle.slots.specs.Entries.{among}
+use Rattle.slots.proofs.Free.{free-says, free-lowest}
 use Rattle.scan.specs.Scan.{slotPart}
 use Rattle.scan.proofs.Within.{slot-within, slot-length}
-use Rattle.table.specs.declared.Step.the-variants.{RollWrite}
 use Rattle.state.specs.declared.State.{State}
 use Rattle.state.specs.Change.{inMode}
+use Rattle.state.specs.State.{slotsIn, heldIn}
+use Rattle.well.proofs.Facts.{Rolling}
 use Rattle.outcome.specs.Enter.{modeAfter}
+use Rattle.outcome.proofs.Modes.{mode-before}
 use Rattle.roll.specs.Begin.{lowestFree, begunState, rollBeginOutcome}
 use Rattle.roll.specs.Write.{rollWriteOutcome}
-use Rattle.state.specs.State.{slotsIn, heldIn}
-use Rattle.metadata.specs.Layout.{slotPlace}
-use Rattle.table.specs.Modes.{inRoll}
-use Rattle.well.proofs.Facts.{Rolling}
 use Rattle.roll.proofs.Rolls.{Begins, begins, Writes, writes}
-use Rattle.outcome.proofs.Modes.{mode-before}
 use Rattle.contracts.specs.Call.{rollBegins, rollWrites, does}
 use Rattle.life.specs.Life.{History, happens}
 use Rattle.life.proofs.Book.{Book, tail, bookSlots, Clean}

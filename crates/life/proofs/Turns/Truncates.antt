@@ -8,10 +8,10 @@ use native.Mathlib.Omega.{arith}
 use lib.ListN.{length}
 use Rattle.state.specs.declared.State.{State}
 use Rattle.head.specs.Start.{headedState, headStartOutcome}
-use Rattle.tail.specs.Start.{withdrawnState, tailStartOutcome}
 use Rattle.head.proofs.Heads.{Heads, heads}
-use Rattle.contracts.proofs.TailStart.{Tails, tails}
+use Rattle.tail.specs.Start.{withdrawnState, tailStartOutcome}
 use Rattle.contracts.specs.Call.{headStarts, tailStarts, does}
+use Rattle.contracts.proofs.TailStart.{Tails, tails}
 use Rattle.life.specs.Life.{History}
 use Rattle.life.specs.Follows.{endIn}
 use Rattle.life.proofs.Book.{Book}
