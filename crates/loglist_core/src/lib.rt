@@ -13,13 +13,13 @@ use record::Lsn;
 const LONGEST_IMAGE: usize = 65536;
 
 // The end of extent i of n: the next start, of the last the tail.
-fn end_of(starts: [Lsn; 64], n: usize, tail: Lsn, i: usize) -> u32
+fn end_of(starts: [Lsn; 64], n: usize, tail: Lsn, i: usize) -> Lsn
     requires { ⌜ (i < n) × (n ≤ 64) ⌝ }
-    ensures { λ r. ⌜ r ≡ endAt (take n (lsnNos starts)) (tail .0) i ⌝ }
+    ensures { λ r. ⌜ r .0 ≡ endAt (take n (lsnNos starts)) (tail .0) i ⌝ }
 {
     let next = i + 1;
     if next == n {
-        return tail.0;
+        return tail;
     }
     slots::start_at(starts, n, next)
 }
@@ -54,7 +54,7 @@ fn print_extents(slots: [Slot; 64], starts: [Lsn; 64], n: usize, tail: Lsn)
         let slot = slots::slot_at(slots, n, i);
         let start = slots::start_at(starts, n, i);
         let end = end_of(starts, n, tail, i);
-        print_line(b"ext", slot as u64, start as u64, end as u64);
+        print_line(b"ext", slot.0 as u64, start.0 as u64, end.0 as u64);
         i += 1;
     }
 }

@@ -1,36 +1,21 @@
-// Samples 1, 2, 11 and 12: bytes as the proved writers write them, a clean mark that is none, and the listing of a fresh image.
+// Samples 1, 2, 11 and 12: the bytes that create and append leave in an image, a clean mark that is none, and the listing of a fresh image.
 use crate::print;
-use metadata::Metadata;
-use metadata::Slot;
-use record::Lsn;
-use record::Version;
+use crate::runs;
 use steps::Log;
 
-// What create stores at E = 64, S = 2: slot 0 is listed, and every counter is at its first.
-fn fresh() -> Metadata {
-    let slots = [Slot(0); 64];
-    Metadata {
-        e: 64,
-        s: 2,
-        head: Lsn(1),
-        last: Lsn(1),
-        version: Version(1),
-        clean: true,
-        n: 1,
-        slots,
-    }
-}
-
+// The metadata that create stores at E = 64, S = 2.
 pub fn metadata() {
-    let mut b = [0u8; 84];
-    metadata::write(&mut b, fresh());
-    print::bytes(b"1 metadata", &b);
+    let mut image = [0u8; 212];
+    Log::create(&mut image, 64, 2);
+    print::bytes(b"1 metadata", &image[0..84]);
 }
 
+// The record that the first append stores: in slot 0, behind the metadata and the extent's header.
 pub fn record() {
-    let mut b = [0u8; 11];
-    record::write(&mut b, b"AB", Lsn(1), Version(1));
-    print::bytes(b"2 record", &b);
+    let mut image = [0u8; 212];
+    let log = runs::running(&mut image);
+    log.append(&mut image, b"AB");
+    print::bytes(b"2 record", &image[89..100]);
 }
 
 // The clean mark stands at byte 18.

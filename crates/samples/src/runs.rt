@@ -6,7 +6,7 @@ use steps::Answer;
 use steps::Log;
 
 // A created log that runs: opened, wiped, marked.
-fn running(image: &mut [u8]) -> Log {
+pub fn running(image: &mut [u8]) -> Log {
     let made = Log::create(image, 64, 2);
     if made.number != 0 {
         return made.log;
