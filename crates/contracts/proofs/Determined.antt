@@ -9,8 +9,8 @@ use Rattle.slots.specs.Word.{count}
 use Rattle.state.specs.declared.State.{State}
 use Rattle.state.specs.State.{freeIn}
 use Rattle.counts.specs.declared.Counts.{Counts}
-use Rattle.counts.specs.Counts.{countsNumber, counted, uncounted, countsOf}
-use Rattle.contracts.specs.Contracts.{Refused, CountsContract, NoSecondOutcome, NoSecondAnswer, CountsNotInvented, RefusedCountsReportNothing}
+use Rattle.counts.specs.Counts.{countsNumber, counted, uncounted, countsOf, CountsContract}
+use Rattle.contracts.specs.Contracts.{Refused, NoSecondOutcome, NoSecondAnswer, CountsNotInvented, RefusedCountsReportNothing}
 
 one : {A : Type 0} (x r r′ : A) → r ≡ x → r′ ≡ x → r ≡ r′
 one x r r′ p q = p ∙ sym q
@@ -23,7 +23,9 @@ pub no-second-answer : NoSecondAnswer
 no-second-answer = record {
   of-create = λ e s l r r′ a a′ p q. (one _ r r′ (p .0) (q .0), one _ a a′ (p .1) (q .1));
   of-open = λ l r r′ p q. one _ r r′ p q;
-  of-read = λ g l x r r′ a a′ p q. (one _ r r′ (p .0) (q .0), one _ a a′ (p .1) (q .1));
+  of-head-finish = λ g l r r′ p q. one _ r r′ p q;
+  of-read = λ g l x r r′ p q. one _ r r′ p q;
+  of-part = λ g l x a a′ p q. one _ a a′ p q;
   of-counts = λ g r r′ p q. one _ r r′ p q;
 }
 

@@ -6,14 +6,17 @@ pub mod Stay
 pub mod Relisted
 pub mod Leaves
 pub mod HeadStart
+pub mod Above
 pub mod RollList
 pub mod TailStart
 pub mod Created
 pub mod OnState
+pub mod Kept
 pub mod Settled
 pub mod Refusing
 pub mod Determined
 pub mod Computing
+pub mod Zeros
 pub mod Samples
 pub mod Running
 pub mod FirstWipe

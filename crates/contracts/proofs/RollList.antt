@@ -23,7 +23,9 @@ use Rattle.state.specs.State.{slotsIn, startsIn, lastStart}
 use Rattle.well.proofs.Facts.{Well, Listed, Headed, Placed, Pending, Rolling, differ}
 use Rattle.outcome.proofs.Calls.{Entered}
 use Rattle.outcome.proofs.Modes.{mode-keeps, mode-before, mode-after}
-use Rattle.roll.specs.List.{ended, rolledState}
+use Rattle.roll.specs.List.{endsIn, ended, rolledState}
+use Rattle.contracts.specs.Contracts.{KeepsAboveHead}
+use Rattle.contracts.proofs.Above.{above-drop}
 use Rattle.contracts.proofs.Rest.{no-roll}
 use Rattle.contracts.proofs.Relisted.{slots-many, starts-many, slots-listed, starts-listed, relisted, reunused, remade}
 use Rattle.contracts.proofs.Leaves.{left-first, left-second, below-drop}
@@ -101,6 +103,17 @@ module _ (g : State) (len : ℕ) (n : Entered RollList g len) (slots : length (g
   last-is =
       let place : g .n - ended g + 1 - 1 ≡ length (drop (ended g) (startsIn g)) = omega (arith, length-drop (ended g) (startsIn g), counted) in
       rw (starts-listed (rolledState g) (newStarts g) refl each, place) (getD-append-seam (drop (ended g) (startsIn g)) (g .tail .0) [] 0)
+
+  -- exactly the extents whose end is above head stay
+  pub rolled-keeps : KeepsAboveHead g (rolledState g)
+  rolled-keeps =
+      let ends-are : endsIn g ≡ drop 1 (ends g) = sym (drop-append-le 1 (startsIn g) (g .tail .0 ∷ []) (omega (arith, counted, w .listed .low))) in
+      let rise : rising 0 (endsIn g) ≡ true = rw ends-are (rising-drop 0 0 (ends g) 1 ends-rise (rising-above 0 (ends g) ends-rise 1)) in
+      let long : length (endsIn g) ≡ g .n = rw ends-are (omega (arith, length-drop 1 (ends g), length-append (startsIn g) (g .tail .0 ∷ []), counted)) in
+      record {
+        slots = rw (above-drop (g .head .0) 0 (slotsIn g) (endsIn g) rise (slots-many g few slots ∙ sym long)) listed-slots;
+        starts = rw (above-drop (g .head .0) 0 (startsIn g) (endsIn g) rise (counted ∙ sym long)) (starts-listed (rolledState g) (newStarts g) refl each);
+      }
 
   rolled-listed : Listed (rolledState g)
   rolled-listed =

@@ -11,11 +11,12 @@ use Rattle.state.specs.declared.Answer.{Answer}
 use Rattle.state.specs.State.{writeSlot, freeIn}
 use Rattle.outcome.specs.Outcome.{Did}
 use Rattle.counts.specs.declared.Counts.{Counts}
+use Rattle.counts.specs.Counts.{CountsContract}
+use Rattle.recovery.specs.Recovery.{OpenContract}
 use Rattle.read.specs.declared.Reading.{Reading}
-use Rattle.read.specs.Read.{readAnswer}
+use Rattle.read.specs.Read.{ReadContract}
 use Rattle.contracts.specs.Call.{Call, wipes, marks, appends, rollBegins, rollWrites, rollLists, headStarts, headFinishes, tailStarts}
 use Rattle.contracts.specs.Call.{tailFinishes, closes, does}
-use Rattle.contracts.specs.Contracts.{OpenContract, CountsContract}
 
 -- a call as a program: from a state and an image to an answer and an image
 abbrev pub Program : Type 0
@@ -47,7 +48,7 @@ pub record RefusesEverythingExcluded : Type 0 where
   pub tail-start : Excluded (tailStarts 1) Refuses
   pub tail-finish : Excluded tailFinishes Refuses
   pub close : Excluded closes Refuses
-  pub read : (f : State → List ℕ → Reading) → ((g : State) (l : List ℕ) → f g l ≡ readAnswer g l 1) → ((g : State) (l : List ℕ) → f g l .number ≡ DONE → ⊥) → ⊥
+  pub read : (f : State → List ℕ → Reading) → ((g : State) (l : List ℕ) → ReadContract g l 1 (f g l)) → ((g : State) (l : List ℕ) → f g l .number ≡ DONE → ⊥) → ⊥
 
 -- nor may open: what create leaves opens
 unfoldable pub OpenRefusesEverythingExcluded : Type 0

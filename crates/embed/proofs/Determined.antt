@@ -2,17 +2,13 @@
 use Prim.Native.Nat.{ℕ}
 use mathlib.Core.Path.{_≡_, sym, _∙_}
 use mathlib.Core.List.{List}
-use lib.ListN.{length}
-use Rattle.scan.specs.Scan.{scan}
-use Rattle.create.specs.Create.{createAnswer, createImage}
-use Rattle.recovery.specs.Recovery.{openAnswer}
-use Rattle.contracts.specs.Call.{Call, headFinishes}
+use Rattle.contracts.specs.Call.{Call}
 use Rattle.embed.specs.declared.State.{State}
 use Rattle.embed.specs.declared.Answer.{Answer}
 use Rattle.embed.specs.declared.Reading.{Reading}
 use Rattle.embed.specs.declared.Report.{Report}
-use Rattle.embed.specs.Told.{Told, mirrored, toldAnswer}
-use Rattle.embed.specs.Shown.{toldReading, toldReport}
+use Rattle.embed.specs.Told.{Told, HeadFinishTold, CreateTold, OpenTold}
+use Rattle.embed.specs.Shown.{ReadTold, CountsTold}
 
 -- where a contract is an equation, what meets it is that one value
 one : {A : Type 0} (x r r′ : A) → r ≡ x → r′ ≡ x → r ≡ r′
@@ -27,25 +23,21 @@ pub step-determined :
 step-determined call state l r r′ a a′ p q = (one _ r r′ (p .answer) (q .answer), one _ a a′ (p .image) (q .image))
 
 -- head finish stores nothing
-pub head-finish-determined :
-    (state : State) (l : List ℕ) (r r′ : Answer)
-    → r ≡ toldAnswer headFinishes state l
-    → r′ ≡ toldAnswer headFinishes state l
-    → r ≡ r′
-head-finish-determined state l = one (toldAnswer headFinishes state l)
+pub head-finish-determined : (state : State) (l : List ℕ) (r r′ : Answer) → HeadFinishTold state l r → HeadFinishTold state l r′ → r ≡ r′
+head-finish-determined state l r r′ p q = one _ r r′ p q
 
 pub create-determined :
     (e s : ℕ) (l : List ℕ) (r r′ : Answer) (a a′ : List ℕ)
-    → (r ≡ mirrored (createAnswer e s (length l))) × (a ≡ createImage e s l)
-    → (r′ ≡ mirrored (createAnswer e s (length l))) × (a′ ≡ createImage e s l)
+    → CreateTold e s l r a
+    → CreateTold e s l r′ a′
     → (r ≡ r′) × (a ≡ a′)
 create-determined e s l r r′ a a′ p q = (one _ r r′ (p .0) (q .0), one _ a a′ (p .1) (q .1))
 
-pub open-determined : (l : List ℕ) (r r′ : Answer) → r ≡ mirrored (openAnswer (scan l)) → r′ ≡ mirrored (openAnswer (scan l)) → r ≡ r′
-open-determined l = one (mirrored (openAnswer (scan l)))
+pub open-determined : (l : List ℕ) (r r′ : Answer) → OpenTold l r → OpenTold l r′ → r ≡ r′
+open-determined l r r′ p q = one _ r r′ p q
 
-pub read-determined : (state : State) (l : List ℕ) (x : ℕ) (r r′ : Reading) → r ≡ toldReading state l x → r′ ≡ toldReading state l x → r ≡ r′
-read-determined state l x = one (toldReading state l x)
+pub read-determined : (state : State) (l : List ℕ) (x : ℕ) (r r′ : Reading) → ReadTold state l x r → ReadTold state l x r′ → r ≡ r′
+read-determined state l x r r′ p q = one _ r r′ p q
 
-pub counts-determined : (state : State) (r r′ : Report) → r ≡ toldReport state → r′ ≡ toldReport state → r ≡ r′
-counts-determined state = one (toldReport state)
+pub counts-determined : (state : State) (r r′ : Report) → CountsTold state r → CountsTold state r′ → r ≡ r′
+counts-determined state r r′ p q = one _ r r′ p q

@@ -1,5 +1,6 @@
 -- What the calls that change nothing show over the mirror: read and counts.
 use Prim.Native.Nat.{ℕ}
+use mathlib.Core.Path.{_≡_}
 use mathlib.Core.List.{List}
 use lib.ListN.{length}
 use Rattle.refusals.specs.Order.{when}
@@ -27,6 +28,9 @@ unfoldable pub toldReading : State → List ℕ → ℕ → Reading
 toldReading state l x =
     when (known (state .mode)) (readingOf (readAnswer (logOf state) l x)) (reading (unknownNumber (sized (state .e) (state .s) (length l))) 0 0)
 
+abbrev pub ReadTold : State → List ℕ → ℕ → Reading → Type 0
+ReadTold state l x r = r ≡ toldReading state l x
+
 -- ---- counts: 1 is for E or S out of range alone
 
 abbrev pub report : ℕ → ℕ → ℕ → Report
@@ -38,3 +42,6 @@ reportOf c = report (c .number) (c .free) (c .live)
 unfoldable pub toldReport : State → Report
 toldReport state =
     when (known (state .mode)) (reportOf (countsOf (logOf state))) (report (unknownNumber (sizesOk (state .e) (state .s))) 0 0)
+
+abbrev pub CountsTold : State → Report → Type 0
+CountsTold state r = r ≡ toldReport state

@@ -8,10 +8,13 @@ use lib.ListN.{length}
 use Rattle.refusals.specs.Order.{when, must, firstOf}
 use Rattle.refusals.specs.Refusals.{SIZE, MALFORMED}
 use Rattle.medium.specs.Store.{count, laid}
+use Rattle.scan.specs.Scan.{scan}
 use Rattle.state.specs.declared.Answer.{Answer as LogAnswer}
 use Rattle.outcome.specs.Outcome.{answerOf}
 use Rattle.outcome.specs.Enter.{sized}
-use Rattle.contracts.specs.Call.{Call, does}
+use Rattle.create.specs.Create.{createAnswer, createImage}
+use Rattle.recovery.specs.Recovery.{openAnswer}
+use Rattle.contracts.specs.Call.{Call, headFinishes, does}
 use Rattle.embed.specs.declared.State.{State}
 use Rattle.embed.specs.declared.Answer.{Answer}
 use Rattle.embed.specs.Mirror.{known, logOf, stateOf}
@@ -38,3 +41,13 @@ toldImage call state l =
 pub record Told (call : Call) (state : State) (l : List ℕ) (r : Answer) (l′ : List ℕ) : Type 0 where
   pub answer : r ≡ toldAnswer call state l
   pub image : l′ ≡ toldImage call state l
+
+-- head finish has no image to change; create and open take no state
+abbrev pub HeadFinishTold : State → List ℕ → Answer → Type 0
+HeadFinishTold state l r = r ≡ toldAnswer headFinishes state l
+
+abbrev pub CreateTold : ℕ → ℕ → List ℕ → Answer → List ℕ → Type 0
+CreateTold e s l r l′ = (r ≡ mirrored (createAnswer e s (length l))) × (l′ ≡ createImage e s l)
+
+abbrev pub OpenTold : List ℕ → Answer → Type 0
+OpenTold l r = r ≡ mirrored (openAnswer (scan l))

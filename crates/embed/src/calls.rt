@@ -1,8 +1,7 @@
 // The eleven steps over the mirror: each refuses a mode that is none of the ten, else makes the step on the log that the state
 // mirrors. What a step does and which store it makes is said in the crate of its subject.
-ghost use mathlib.Core.Path.{_≡_};
-ghost use Rattle.contracts.specs.Call.{wipes, marks, appends, rollBegins, rollWrites, rollLists, headStarts, headFinishes, tailStarts, tailFinishes, closes};
-ghost use Rattle.embed.specs.Told.{Told, toldAnswer};
+ghost use Rattle.contracts.specs.Call.{wipes, marks, appends, rollBegins, rollWrites, rollLists, headStarts, tailStarts, tailFinishes, closes};
+ghost use Rattle.embed.specs.Told.{Told, HeadFinishTold};
 use crate::Answer;
 use crate::State;
 use crate::mirror;
@@ -81,7 +80,7 @@ pub extern "C" fn liftlog_head_start(state: State, image: &mut [u8], h: Lsn) -> 
 // No store: the image is only lent to be measured.
 #[no_mangle]
 pub extern "C" fn liftlog_head_finish(state: State, image: &[u8]) -> Answer
-    ensures { λ r. ⌜ r ≡ toldAnswer headFinishes state (now (image .entry)) ⌝ }
+    ensures { λ r. ⌜ HeadFinishTold state (now (image .entry)) r ⌝ }
 {
     if mirror::UNKNOWN <= state.mode {
         return state.unknown(image.len());

@@ -1,6 +1,5 @@
 // The calls that change nothing: read and counts. They hand back no state, since the caller has its own still.
-ghost use mathlib.Core.Path.{_≡_};
-ghost use Rattle.embed.specs.Shown.{toldReading, toldReport};
+ghost use Rattle.embed.specs.Shown.{ReadTold, CountsTold};
 use crate::Reading;
 use crate::Report;
 use crate::State;
@@ -10,7 +9,7 @@ use record::Lsn;
 
 #[no_mangle]
 pub extern "C" fn liftlog_read(state: State, image: &[u8], lsn: Lsn) -> Reading
-    ensures { λ r. ⌜ r ≡ toldReading state (now (image .entry)) (lsn .0) ⌝ }
+    ensures { λ r. ⌜ ReadTold state (now (image .entry)) (lsn .0) r ⌝ }
 {
     if mirror::UNKNOWN <= state.mode {
         let number = told::unknown_number(outcome::sized(state.e, state.s, image.len()));
@@ -30,7 +29,7 @@ pub extern "C" fn liftlog_read(state: State, image: &[u8], lsn: Lsn) -> Reading
 
 #[no_mangle]
 pub extern "C" fn liftlog_counts(state: State) -> Report
-    ensures { λ r. ⌜ r ≡ toldReport state ⌝ }
+    ensures { λ r. ⌜ CountsTold state r ⌝ }
 {
     if mirror::UNKNOWN <= state.mode {
         let number = told::unknown_number(metadata::sizes_ok(state.e, state.s));

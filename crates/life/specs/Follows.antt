@@ -1,5 +1,6 @@
 -- What follows from demand 3, each for every life: a withdrawn record stays out, a kept one stays, a state in hand is never found
--- malformed, recovery can be cut and repeated, the log is never stuck, and read shows what the history says.
+-- malformed and says what the history says, recovery can be cut and repeated, the log is never stuck, and read shows the history and
+-- nothing else.
 use Prim.Native.Nat.{ℕ, _+_, _-_, _≤_, _<_}
 use mathlib.Core.Path.{_≡_}
 use mathlib.Core.Bool.{true}
@@ -13,7 +14,10 @@ use Rattle.table.specs.Next.{nextOf}
 use Rattle.table.specs.declared.Mode.the-variants.{Run}
 use Rattle.table.specs.declared.Step.the-variants.{Read}
 use Rattle.scan.specs.Scan.{Scan, refused, opened, scan}
+use Rattle.state.specs.declared.Answer.{Answer}
 use Rattle.outcome.specs.Enter.{leads}
+use Rattle.counts.specs.Counts.{countsOf}
+use Rattle.create.specs.Create.{CreateContract}
 use Rattle.read.specs.Read.{readAnswer, shown}
 use Rattle.contracts.specs.Call.{Call, opens, wipes, marks, appends, rollLists, headStarts, tailStarts, does}
 use Rattle.life.specs.Life.{History, World, Event, call, cut, dark, step, lives, created, Record, numbered, recordsOf, live}
@@ -26,6 +30,14 @@ pub record InLife (w : World) : Type 0 where
   pub sized : sizesOk e s ≡ true
   pub events : List Event
   pub is : w ≡ lives events (created e s)
+
+-- a done create gives the world in which lives begin
+unfoldable pub CreateBegins : Type 0
+CreateBegins =
+    (e s : ℕ) (l : List ℕ) (r : Answer) (l′ : List ℕ)
+    → CreateContract e s l r l′
+    → r .number ≡ DONE
+    → (sizesOk e s ≡ true) × (r .log ≡ created e s .log) × (l′ ≡ created e s .image)
 
 -- ---- what open shows
 
@@ -120,6 +132,16 @@ AddedStays =
 abbrev pub OneTwoOrFifteen : ℕ → Type 0
 OneTwoOrFifteen k = (k ≡ SIZE) ⊎ (k ≡ MALFORMED) ⊎ (k ≡ NOT-FOUND)
 
+-- a state in hand has the history's head and end, and counts answers 0 with the history's length as live count
+pub record Agrees (w : World) : Type 0 where
+  pub head : w .log .head .0 ≡ w .history .head
+  pub tail : w .log .tail .0 ≡ endIn (w .history)
+  pub counted : countsOf (w .log) .number ≡ DONE
+  pub live : countsOf (w .log) .live ≡ length (w .history .payloads)
+
+unfoldable pub HandAgrees : Type 0
+HandAgrees = (w : World) → InLife w → w .held ≡ true → Agrees w
+
 -- with a state in hand, not one lost in a cut and not yet opened again, no call answers 1, 2 or 15
 unfoldable pub NeverMalformed : Type 0
 NeverMalformed =
@@ -188,6 +210,15 @@ Reads w y =
 -- in every mode that admits it
 unfoldable pub ReadsShow : Type 0
 ReadsShow = (w : World) → InLife w → w .held ≡ true → leads (nextOf Read (w .log .mode)) ≡ true → Reads w (w .history)
+
+-- read is done for an LSN of the history and for no other, in hand or not
+unfoldable pub ReadsOnly : Type 0
+ReadsOnly =
+    (w : World)
+    → InLife w
+    → (x : ℕ)
+    → readAnswer (w .log) (w .image) x .number ≡ DONE
+    → (w .history .head ≤ x) × (x < endIn (w .history))
 
 -- and so once the log runs again, after any cut
 unfoldable pub ReadsAgain : Type 0

@@ -157,12 +157,12 @@ module _ {g : State} {l : List ℕ} {b : Book} {y : History} (r : Rests l b y) (
       rule-fine (leb (g .head .0) x && ltb x (g .tail .0)) 10 _ refl (λ live.
       rw (walks-there x (live-lsn x live), finds-there x (live-lsn x live)) done-fine))
 
-  counts-fine : Fine (countsNumber g)
+  pub counts-answers : countsNumber g ≡ 0
   unfolding countsNumber
-  counts-fine =
+  counts-answers =
       let t = s .knows .tied in
       let z : sizesOk (g .e) (g .s) ≡ true = rw (e-is t, s-is t) (r .sound .size) in
-      rw (z, s .well, first-passes 0 0 refl) done-fine
+      rw (z, s .well) (first-passes 0 0 refl)
 
   open-fine : Fine (does opens g l .number)
   open-fine = rw (open-does r g) done-fine
@@ -185,7 +185,7 @@ module _ {g : State} {l : List ℕ} {b : Book} {y : History} (r : Rests l b y) (
   fine tailFinishes = fine-done _ _ _ (enters TailFinish)
   fine closes = fine-done _ _ _ (enters Close)
   fine (reads x) = read-fine x
-  fine counts = counts-fine
+  fine counts = rw counts-answers done-fine
 
 -- ---- in every life
 

@@ -1,7 +1,7 @@
 -- What open finds in an image that rests on a book: the history's records, from its head up to its end, and never more than fit. It is
 -- demand 3 for one image.
 use Prim.Native.Nat.{ℕ, _+_, _-_}
-use mathlib.Core.Path.{_≡_, sym, ap, _∙_}
+use mathlib.Core.Path.{_≡_, refl, sym, ap, _∙_}
 use mathlib.Core.List.{List}
 use native.Mathlib.Omega.{arith}
 use lib.ListN.{length, length-drop}
@@ -35,6 +35,8 @@ module _ {l : List ℕ} {b : Book} {y : History} (r : Rests l b y) where
       record {
         view = viewOf b;
         opens = opens-so;
+        extent-size = refl;
+        slot-count = refl;
         joins = extents-join (b .write) (b .olds) (c .joined);
         head = r .head;
         tail = tail-of (b .write) (b .olds) ∙ tail-ends;
