@@ -13,7 +13,7 @@
  * outlive the program, let the calls work on a copy in memory, and carry each call's one store to the medium in that order, before
  * anything is passed on (examples/medium.c).
  *
- * Link with libembed.a. The functions are proved for every input. What the caller owes: each call gets the state that the call before
+ * Link with libliftlog.a. The functions are proved for every input. What the caller owes: each call gets the state that the call before
  * handed back, and after a power cut only open's (a state is a value, and two calls on one old copy of it would both answer 0);
  * nobody else writes the image; a pointer and its length name memory that it may use, and image and payload do not overlap. */
 #ifndef LIFTLOG_H

@@ -22,7 +22,7 @@ need() {
 run_x86() { ${emulator:+"$emulator"} "$@"; }
 run_proved() { run_x86 "$tools/lib/ld-linux-x86-64.so.2" --library-path "$tools/lib" "$@"; }
 
-# compile PROGRAM FILE..: C over include/liftlog.h, linked statically with the archive of rt staticlib embed.
+# compile PROGRAM FILE..: C over include/liftlog.h, linked statically with the archive of rt staticlib liftlog.
 compile() {
-    "$cc_x86" -std=c11 -O2 -Wall -Wextra -Werror -Iinclude -static -o "$@" target/staticlib/libembed.a
+    "$cc_x86" -std=c11 -O2 -Wall -Wextra -Werror -Iinclude -static -o "$@" target/staticlib/libliftlog.a
 }

@@ -1,0 +1,43 @@
+-- An unknown mode is refused; on a known one the step's answer is mirrored.
+use Rattle.contracts.specs.Call.{does}
+use Rattle.liftlog.proofs.Tells.{unknown-told, known-told}
+use borrow.Author.Needs.{needs}
+use Rattle.liftlog.proofs.calls.liftlog_head_start.Statement.{statement}
+use Rattle.liftlog.proofs.calls.liftlog_head_start.Tie as tie
+
+unknown-requires : tie.Need-unknown-requires
+unknown-requires c κs = search needs
+
+returns : tie.Need-returns
+returns c = unknown-told _ _ _ _ (c .before .if1 .taken) (c .unknown .ensures)
+
+log-requires : tie.Need-log-requires
+log-requires c κs = search needs
+
+head-start-requires : tie.Need-head-start-requires
+head-start-requires c κs = search needs
+
+mirrored-requires : tie.Need-mirrored-requires
+mirrored-requires c κs = search needs
+
+same-length : tie.Need-same-length
+same-length c = search needs
+
+returns-2 : tie.Need-returns-2
+unfolding does
+returns-2 c =
+    let stepped = c .before .before .before in
+    let known = stepped .before .before in
+    known-told _ _ _ _ _ _ _ (known .before .if1 .left) (known .log .ensures) (stepped .head-start .ensures) (c .mirrored .ensures)
+
+pub liftlog-head-start-spec : {M : Type 1} → statement M
+liftlog-head-start-spec =
+    tie.close
+    (tie.spec
+    unknown-requires
+    returns
+    log-requires
+    head-start-requires
+    mirrored-requires
+    same-length
+    returns-2)

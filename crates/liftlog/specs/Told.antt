@@ -1,0 +1,53 @@
+-- What a call over the mirror does: on a known mode what the call does, mirrored back; on any other byte, which is a
+-- malformed state, 1 or 2, with state and image as they were.
+use Prim.Native.Nat.{ℕ}
+use mathlib.Core.Bool.{Bool}
+use mathlib.Core.Path.{_≡_}
+use mathlib.Core.List.{List}
+use lib.ListN.{length}
+use Rattle.refusals.specs.Order.{when, must, firstOf}
+use Rattle.refusals.specs.Refusals.{SIZE, MALFORMED}
+use Rattle.medium.specs.Store.{count, laid}
+use Rattle.scan.specs.Scan.{scan}
+use Rattle.state.specs.declared.Answer.{Answer as LogAnswer}
+use Rattle.outcome.specs.Outcome.{answerOf}
+use Rattle.outcome.specs.Enter.{sized}
+use Rattle.create.specs.Create.{createAnswer, createImage}
+use Rattle.recovery.specs.Recovery.{openAnswer}
+use Rattle.contracts.specs.Call.{Call, headFinishes, does}
+use Rattle.liftlog.specs.declared.State.{State}
+use Rattle.liftlog.specs.declared.Answer.{Answer}
+use Rattle.liftlog.specs.Mirror.{known, logOf, stateOf}
+
+abbrev pub answer : ℕ → State → Answer
+answer k state = record { number = k; state = state }
+
+abbrev pub mirrored : LogAnswer → Answer
+mirrored a = answer (a .number) (stateOf (a .log))
+
+-- a byte that is no mode: 1 where the sizes are wrong, else 2
+unfoldable pub unknownNumber : Bool → ℕ
+unknownNumber sizes = firstOf (must sizes SIZE) MALFORMED
+
+unfoldable pub toldAnswer : Call → State → List ℕ → Answer
+toldAnswer call state l =
+    when (known (state .mode)) (mirrored (answerOf (does call (logOf state) l))) (answer (unknownNumber (sized (state .e) (state .s) (length l))) state)
+
+unfoldable pub toldImage : Call → State → List ℕ → List ℕ
+toldImage call state l =
+    when (known (state .mode)) (laid (count (does call (logOf state) l .store)) (does call (logOf state) l .store) l) l
+
+-- a call that takes state and an image l answers r, and leaves l′
+pub record Told (call : Call) (state : State) (l : List ℕ) (r : Answer) (l′ : List ℕ) : Type 0 where
+  pub answer : r ≡ toldAnswer call state l
+  pub image : l′ ≡ toldImage call state l
+
+-- head finish has no image to change; create and open take no state
+abbrev pub HeadFinishTold : State → List ℕ → Answer → Type 0
+HeadFinishTold state l r = r ≡ toldAnswer headFinishes state l
+
+abbrev pub CreateTold : ℕ → ℕ → List ℕ → Answer → List ℕ → Type 0
+CreateTold e s l r l′ = (r ≡ mirrored (createAnswer e s (length l))) × (l′ ≡ createImage e s l)
+
+abbrev pub OpenTold : List ℕ → Answer → Type 0
+OpenTold l r = r ≡ mirrored (openAnswer (scan l))
