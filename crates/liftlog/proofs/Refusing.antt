@@ -10,24 +10,23 @@ use Rattle.medium.specs.Store.{count, laid}
 use Rattle.metadata.specs.Metadata.{sizesOk}
 use Rattle.scan.specs.Scan.{scan}
 use Rattle.state.specs.Change.{zeroState}
-use Rattle.outcome.specs.Outcome.{Outcome, answerOf}
+use Rattle.outcome.specs.Outcome.{Outcome}
 use Rattle.outcome.specs.Enter.{sized}
 use Rattle.counts.specs.Counts.{countsOf}
-use Rattle.create.specs.Create.{createAnswer, createImage}
-use Rattle.recovery.specs.Recovery.{openAnswer}
 use Rattle.read.specs.Read.{readAnswer}
 use Rattle.contracts.specs.Call.{Call, headFinishes, isOpen, does}
 use Rattle.contracts.specs.Contracts.{RefusedReadShowsNothing, RefusedCountsReportNothing}
 use Rattle.contracts.proofs.OnState.{state-call}
 use Rattle.contracts.proofs.Refusing.{create-leaves, open-leaves, refused-read-shows-nothing}
 use Rattle.contracts.proofs.Determined.{refused-counts-report-nothing}
+use Rattle.named.specs.Named.{nothing}
 use Rattle.liftlog.specs.declared.State.{State}
 use Rattle.liftlog.specs.declared.Answer.{Answer}
 use Rattle.liftlog.specs.declared.Reading.{Reading}
 use Rattle.liftlog.specs.declared.Report.{Report}
 use Rattle.liftlog.specs.Mirror.{known, logOf, stateOf}
-use Rattle.liftlog.specs.Told.{Told, answer, mirrored, unknownNumber, toldAnswer, toldImage}
-use Rattle.liftlog.specs.Shown.{reading, readingOf, toldReading, report, reportOf, toldReport}
+use Rattle.liftlog.specs.Told.{Told, HeadFinishTold, CreateTold, OpenTold, answer, mirrored, unknownNumber, toldAnswer, toldImage}
+use Rattle.liftlog.specs.Shown.{reading, readingOf, toldReading, ReadTold, report, reportOf, toldReport, CountsTold}
 use Rattle.liftlog.proofs.Mirrors.{state-back}
 
 -- ---- the steps
@@ -46,7 +45,7 @@ step-stays c on state l r l′ t no′ = by (known (state .mode)) refl (t .answe
     by :
         (b : Bool)
         → known (state .mode) ≡ b
-        → r ≡ when b (mirrored (answerOf o)) (answer (unknownNumber (sized (state .e) (state .s) (length l))) state)
+        → r ≡ when b (mirrored o) (answer (unknownNumber (sized (state .e) (state .s) (length l))) nothing state)
         → l′ ≡ when b (laid (count (o .store)) (o .store) l) l
         → (r .state ≡ state) × (l′ ≡ l)
     by true k a i =
@@ -55,7 +54,7 @@ step-stays c on state l r l′ t no′ = by (known (state .mode)) refl (t .answe
     by false k a i = (ap (λ (x : Answer). x .state) a, i)
 
 -- head finish takes the image only to measure it, so its contract speaks of the answer alone
-pub head-finish-stays : (state : State) (l : List ℕ) (r : Answer) → r ≡ toldAnswer headFinishes state l → (r .number ≡ 0 → ⊥) → r .state ≡ state
+pub head-finish-stays : (state : State) (l : List ℕ) (r : Answer) → HeadFinishTold state l r → (r .number ≡ 0 → ⊥) → r .state ≡ state
 head-finish-stays state l r p no′ =
     step-stays headFinishes refl state l r (toldImage headFinishes state l) (record { answer = p; image = refl }) no′ .0
 
@@ -63,14 +62,14 @@ head-finish-stays state l r p no′ =
 
 pub create-stays :
     (e s : ℕ) (l : List ℕ) (r : Answer) (l′ : List ℕ)
-    → (r ≡ mirrored (createAnswer e s (length l))) × (l′ ≡ createImage e s l)
+    → CreateTold e s l r l′
     → (r .number ≡ 0 → ⊥)
     → (r .state ≡ stateOf zeroState) × (l′ ≡ l)
 create-stays e s l r l′ p no′ =
     let left = create-leaves e s l (λ z. no′ (ap (λ (x : Answer). x .number) (p .0) ∙ z)) in
     (ap (λ (x : Answer). x .state) (p .0) ∙ ap stateOf (left .0), p .1 ∙ left .1)
 
-pub open-stays : (l : List ℕ) (r : Answer) → r ≡ mirrored (openAnswer (scan l)) → (r .number ≡ 0 → ⊥) → r .state ≡ stateOf zeroState
+pub open-stays : (l : List ℕ) (r : Answer) → OpenTold l r → (r .number ≡ 0 → ⊥) → r .state ≡ stateOf zeroState
 open-stays l r p no′ =
     ap (λ (x : Answer). x .state) p ∙ ap stateOf (open-leaves (scan l) (λ z. no′ (ap (λ (x : Answer). x .number) p ∙ z)))
 
@@ -78,7 +77,7 @@ open-stays l r p no′ =
 
 pub read-shows-nothing :
     (state : State) (l : List ℕ) (x : ℕ) (r : Reading)
-    → r ≡ toldReading state l x
+    → ReadTold state l x r
     → (r .number ≡ 0 → ⊥)
     → (r .place ≡ 0) × (r .length ≡ 0)
 unfolding toldReading RefusedReadShowsNothing
@@ -91,7 +90,7 @@ read-shows-nothing state l x r p no′ = by (known (state .mode)) p
         (ap (λ (y : Reading). y .place) a ∙ left .place none, ap (λ (y : Reading). y .length) a ∙ left .length none)
     by false a = (ap (λ (y : Reading). y .place) a, ap (λ (y : Reading). y .length) a)
 
-pub counts-shows-nothing : (state : State) (r : Report) → r ≡ toldReport state → (r .number ≡ 0 → ⊥) → (r .free ≡ 0) × (r .live ≡ 0)
+pub counts-shows-nothing : (state : State) (r : Report) → CountsTold state r → (r .number ≡ 0 → ⊥) → (r .free ≡ 0) × (r .live ≡ 0)
 unfolding toldReport RefusedCountsReportNothing
 counts-shows-nothing state r p no′ = by (known (state .mode)) p
   where

@@ -7,34 +7,37 @@ use borrow.Author.Tests.{lt-ltb, le-ltb}
 use lib.ListN.{length}
 use Rattle.state.specs.declared.State.{State as Log}
 use Rattle.state.specs.declared.Answer.{Answer as LogAnswer}
-use Rattle.outcome.specs.Outcome.{Did, answerOf}
+use Rattle.outcome.specs.Outcome.{Did}
 use Rattle.outcome.specs.Enter.{sized}
 use Rattle.contracts.specs.Call.{Call, does}
+use Rattle.named.specs.declared.Named.{Named}
+use Rattle.named.specs.Named.{nothing, named}
 use Rattle.liftlog.specs.declared.State.{State}
 use Rattle.liftlog.specs.declared.Answer.{Answer}
-use Rattle.liftlog.specs.Mirror.{logOf}
+use Rattle.liftlog.specs.Mirror.{logOf, stateOf}
 use Rattle.liftlog.specs.Told.{Told, answer, mirrored, unknownNumber, toldAnswer, toldImage}
 
 module _ (call : Call) (state : State) (l : List ℕ) where
-  pub unknown-answer : 10 ≤ state .mode → answer (unknownNumber (sized (state .e) (state .s) (length l))) state ≡ toldAnswer call state l
+  pub unknown-answer : 10 ≤ state .mode → answer (unknownNumber (sized (state .e) (state .s) (length l))) nothing state ≡ toldAnswer call state l
   unfolding toldAnswer
   unknown-answer h = rw (le-ltb (state .mode) 10 h)
 
-  pub known-answer : state .mode < 10 → mirrored (answerOf (does call (logOf state) l)) ≡ toldAnswer call state l
+  pub known-answer : state .mode < 10 → mirrored (does call (logOf state) l) ≡ toldAnswer call state l
   unfolding toldAnswer
   known-answer h = rw (lt-ltb (state .mode) 10 h)
 
-  pub unknown-told : (r : Answer) → 10 ≤ state .mode → r ≡ answer (unknownNumber (sized (state .e) (state .s) (length l))) state → Told call state l r l
+  pub unknown-told : (r : Answer) → 10 ≤ state .mode → r ≡ answer (unknownNumber (sized (state .e) (state .s) (length l))) nothing state → Told call state l r l
   unfolding toldImage
   unknown-told r h e = rw e (record { answer = unknown-answer h; image = rw (le-ltb (state .mode) 10 h) })
 
   pub known-told :
-      (g : Log) (a : LogAnswer) (r : Answer) (l′ : List ℕ)
+      (g : Log) (a : LogAnswer) (store : Named) (r : Answer) (l′ : List ℕ)
       → state .mode < 10
       → g ≡ logOf state
       → Did (does call g l) l a l′
-      → r ≡ mirrored a
+      → store ≡ named (does call g l .store)
+      → r ≡ answer (a .number) store (stateOf (a .log))
       → Told call state l r l′
   unfolding toldImage
-  known-told g a r l′ h e did m =
-      rw (m, did .answer, e) (record { answer = known-answer h; image = rw (lt-ltb (state .mode) 10 h, ← e) (did .image) })
+  known-told g a store r l′ h e did s m =
+      rw (m, did .answer, s, e) (record { answer = known-answer h; image = rw (lt-ltb (state .mode) 10 h, ← e) (did .image) })

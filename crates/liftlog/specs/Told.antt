@@ -1,5 +1,5 @@
--- What a call over the mirror does: on a known mode what the call does, mirrored back; on any other byte, which is a
--- malformed state, 1 or 2, with state and image as they were.
+-- What a call over the mirror does: on a known mode what the call does, mirrored back, with the name of its store; on any other byte,
+-- which is a malformed state, 1 or 2, with state and image as they were and no store.
 use Prim.Native.Nat.{ℕ}
 use mathlib.Core.Bool.{Bool}
 use mathlib.Core.Path.{_≡_}
@@ -9,21 +9,22 @@ use Rattle.refusals.specs.Order.{when, must, firstOf}
 use Rattle.refusals.specs.Refusals.{SIZE, MALFORMED}
 use Rattle.medium.specs.Store.{count, laid}
 use Rattle.scan.specs.Scan.{scan}
-use Rattle.state.specs.declared.Answer.{Answer as LogAnswer}
-use Rattle.outcome.specs.Outcome.{answerOf}
+use Rattle.outcome.specs.Outcome.{Outcome}
 use Rattle.outcome.specs.Enter.{sized}
 use Rattle.create.specs.Create.{createAnswer, createImage}
 use Rattle.recovery.specs.Recovery.{openAnswer}
-use Rattle.contracts.specs.Call.{Call, headFinishes, does}
+use Rattle.contracts.specs.Call.{Call, headFinishes, withoutStore, does}
+use Rattle.named.specs.declared.Named.{Named}
+use Rattle.named.specs.Named.{nothing, named}
 use Rattle.liftlog.specs.declared.State.{State}
 use Rattle.liftlog.specs.declared.Answer.{Answer}
 use Rattle.liftlog.specs.Mirror.{known, logOf, stateOf}
 
-abbrev pub answer : ℕ → State → Answer
-answer k state = record { number = k; state = state }
+abbrev pub answer : ℕ → Named → State → Answer
+answer k store state = record { number = k; store = store; state = state }
 
-abbrev pub mirrored : LogAnswer → Answer
-mirrored a = answer (a .number) (stateOf (a .log))
+abbrev pub mirrored : Outcome → Answer
+mirrored o = answer (o .number) (named (o .store)) (stateOf (o .next))
 
 -- a byte that is no mode: 1 where the sizes are wrong, else 2
 unfoldable pub unknownNumber : Bool → ℕ
@@ -31,7 +32,7 @@ unknownNumber sizes = firstOf (must sizes SIZE) MALFORMED
 
 unfoldable pub toldAnswer : Call → State → List ℕ → Answer
 toldAnswer call state l =
-    when (known (state .mode)) (mirrored (answerOf (does call (logOf state) l))) (answer (unknownNumber (sized (state .e) (state .s) (length l))) state)
+    when (known (state .mode)) (mirrored (does call (logOf state) l)) (answer (unknownNumber (sized (state .e) (state .s) (length l))) nothing state)
 
 unfoldable pub toldImage : Call → State → List ℕ → List ℕ
 toldImage call state l =
@@ -42,12 +43,13 @@ pub record Told (call : Call) (state : State) (l : List ℕ) (r : Answer) (l′ 
   pub answer : r ≡ toldAnswer call state l
   pub image : l′ ≡ toldImage call state l
 
--- head finish has no image to change; create and open take no state
+-- head finish has no image to change; create and open take no state. Create's answer names no store: it lays the whole image, before the
+-- log's life begins
 abbrev pub HeadFinishTold : State → List ℕ → Answer → Type 0
 HeadFinishTold state l r = r ≡ toldAnswer headFinishes state l
 
 abbrev pub CreateTold : ℕ → ℕ → List ℕ → Answer → List ℕ → Type 0
-CreateTold e s l r l′ = (r ≡ mirrored (createAnswer e s (length l))) × (l′ ≡ createImage e s l)
+CreateTold e s l r l′ = (r ≡ mirrored (withoutStore (createAnswer e s (length l)))) × (l′ ≡ createImage e s l)
 
 abbrev pub OpenTold : List ℕ → Answer → Type 0
-OpenTold l r = r ≡ mirrored (openAnswer (scan l))
+OpenTold l r = r ≡ mirrored (withoutStore (openAnswer (scan l)))

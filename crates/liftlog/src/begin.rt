@@ -7,12 +7,12 @@ use crate::mirror;
 pub extern "C" fn liftlog_create(image: &mut [u8], e: u32, s: u8) -> Answer
     ensures { λ r. ⌜ CreateTold e s (now (image .entry)) r (now (image .exit)) ⌝ }
 {
-    mirror::mirrored(create::create(image, e, s))
+    mirror::mirrored(create::create(image, e, s), named::nothing())
 }
 
 #[no_mangle]
 pub extern "C" fn liftlog_open(image: &[u8]) -> Answer
     ensures { λ r. ⌜ OpenTold (now (image .entry)) r ⌝ }
 {
-    mirror::mirrored(recovery::open(image))
+    mirror::mirrored(recovery::open(image), named::nothing())
 }

@@ -1,5 +1,5 @@
 // The eleven steps over the mirror: each refuses a mode that is none of the ten, else makes the step on the log that the state
-// mirrors. What a step does and which store it makes is said in the crate of its subject.
+// mirrors, and names the store that it has made. What a step does is said in the crate of its subject.
 ghost use Rattle.contracts.specs.Call.{wipes, marks, appends, rollBegins, rollWrites, rollLists, headStarts, tailStarts, tailFinishes, closes};
 ghost use Rattle.liftlog.specs.Told.{Told, HeadFinishTold};
 use crate::Answer;
@@ -14,7 +14,9 @@ pub extern "C" fn liftlog_wipe(state: State, image: &mut [u8]) -> Answer
     if mirror::UNKNOWN <= state.mode {
         return state.unknown(image.len());
     }
-    mirror::mirrored(recovery::wipe(state.log(), image))
+    let log = state.log();
+    let a = recovery::wipe(log, image);
+    mirror::mirrored(a, named::of_rest(log, a.number))
 }
 
 #[no_mangle]
@@ -24,7 +26,9 @@ pub extern "C" fn liftlog_mark(state: State, image: &mut [u8]) -> Answer
     if mirror::UNKNOWN <= state.mode {
         return state.unknown(image.len());
     }
-    mirror::mirrored(recovery::mark(state.log(), image))
+    let log = state.log();
+    let a = recovery::mark(log, image);
+    mirror::mirrored(a, named::of_metadata(a.number))
 }
 
 #[no_mangle]
@@ -34,7 +38,9 @@ pub extern "C" fn liftlog_append(state: State, image: &mut [u8], payload: &[u8])
     if mirror::UNKNOWN <= state.mode {
         return state.unknown(image.len());
     }
-    mirror::mirrored(append::append(state.log(), image, payload))
+    let log = state.log();
+    let a = append::append(log, image, payload);
+    mirror::mirrored(a, named::of_append(log, payload, a.number))
 }
 
 #[no_mangle]
@@ -44,7 +50,9 @@ pub extern "C" fn liftlog_roll_begin(state: State, image: &mut [u8], p: usize) -
     if mirror::UNKNOWN <= state.mode {
         return state.unknown(image.len());
     }
-    mirror::mirrored(roll::roll_begin(state.log(), image, p))
+    let log = state.log();
+    let a = roll::roll_begin(log, image, p);
+    mirror::mirrored(a, named::of_roll_begin(log.e, a.log.roll_slot, a.number))
 }
 
 #[no_mangle]
@@ -54,7 +62,12 @@ pub extern "C" fn liftlog_roll_write(state: State, image: &mut [u8], payload: &[
     if mirror::UNKNOWN <= state.mode {
         return state.unknown(image.len());
     }
-    mirror::mirrored(roll::roll_write(state.log(), image, payload))
+    let log = state.log();
+    let a = roll::roll_write(log, image, payload);
+    mirror::mirrored(
+        a,
+        named::of_roll_write(log.e, log.roll_slot, payload, a.number),
+    )
 }
 
 #[no_mangle]
@@ -64,7 +77,9 @@ pub extern "C" fn liftlog_roll_list(state: State, image: &mut [u8]) -> Answer
     if mirror::UNKNOWN <= state.mode {
         return state.unknown(image.len());
     }
-    mirror::mirrored(roll::roll_list(state.log(), image))
+    let log = state.log();
+    let a = roll::roll_list(log, image);
+    mirror::mirrored(a, named::of_metadata(a.number))
 }
 
 #[no_mangle]
@@ -74,7 +89,9 @@ pub extern "C" fn liftlog_head_start(state: State, image: &mut [u8], h: Lsn) -> 
     if mirror::UNKNOWN <= state.mode {
         return state.unknown(image.len());
     }
-    mirror::mirrored(head::head_start(state.log(), image, h))
+    let log = state.log();
+    let a = head::head_start(log, image, h);
+    mirror::mirrored(a, named::of_metadata(a.number))
 }
 
 // No store: the image is only lent to be measured.
@@ -85,7 +102,7 @@ pub extern "C" fn liftlog_head_finish(state: State, image: &[u8]) -> Answer
     if mirror::UNKNOWN <= state.mode {
         return state.unknown(image.len());
     }
-    mirror::mirrored(head::head_finish(state.log(), image))
+    mirror::mirrored(head::head_finish(state.log(), image), named::nothing())
 }
 
 #[no_mangle]
@@ -95,7 +112,9 @@ pub extern "C" fn liftlog_tail_start(state: State, image: &mut [u8], t: Lsn) -> 
     if mirror::UNKNOWN <= state.mode {
         return state.unknown(image.len());
     }
-    mirror::mirrored(tail::tail_start(state.log(), image, t))
+    let log = state.log();
+    let a = tail::tail_start(log, image, t);
+    mirror::mirrored(a, named::of_metadata(a.number))
 }
 
 #[no_mangle]
@@ -105,7 +124,9 @@ pub extern "C" fn liftlog_tail_finish(state: State, image: &mut [u8]) -> Answer
     if mirror::UNKNOWN <= state.mode {
         return state.unknown(image.len());
     }
-    mirror::mirrored(tail::tail_finish(state.log(), image))
+    let log = state.log();
+    let a = tail::tail_finish(log, image);
+    mirror::mirrored(a, named::of_rest(log, a.number))
 }
 
 #[no_mangle]
@@ -115,5 +136,7 @@ pub extern "C" fn liftlog_close(state: State, image: &mut [u8]) -> Answer
     if mirror::UNKNOWN <= state.mode {
         return state.unknown(image.len());
     }
-    mirror::mirrored(close::close(state.log(), image))
+    let log = state.log();
+    let a = close::close(log, image);
+    mirror::mirrored(a, named::of_metadata(a.number))
 }

@@ -1,19 +1,21 @@
 // From the mirror to the log and back: the same fields, the mode as the byte of its place in document 01's order.
 ghost use mathlib.Core.Path.{_≡_};
 ghost use Prim.Native.Nat.{_<_};
+ghost use lib.ListN.{length};
 ghost use Rattle.liftlog.specs.Mirror.{logOf, stateOf};
-ghost use Rattle.liftlog.specs.Told.{mirrored as Told·mirrored};
+ghost use Rattle.liftlog.specs.Told.{answer};
 use crate::Answer;
 use crate::State;
+use named::Named;
 
 // A byte from here on is no mode.
 pub(crate) const UNKNOWN: u8 = table::COUNT as u8;
 
 impl State {
-    // Only a known mode has a log.
+    // Only a known mode has a log. Its arrays are told to have their 64 entries, which a struct does not say.
     pub(crate) fn log(self) -> state::State
         requires { ⌜ self .mode < 10 ⌝ }
-        ensures { λ r. ⌜ r ≡ logOf self ⌝ }
+        ensures { λ r. ⌜ (r ≡ logOf self) × (length (r .slots) ≡ 64) × (length (r .starts) ≡ 64) ⌝ }
     {
         let slots = self.slots;
         let starts = self.starts;
@@ -70,13 +72,14 @@ fn state_of(log: state::State) -> State
     }
 }
 
-// The answer of a call on the log, over the mirror.
-pub(crate) fn mirrored(a: state::Answer) -> Answer
-    ensures { λ r. ⌜ r ≡ Told·mirrored a ⌝ }
+// The answer of a call on the log, over the mirror, with the store that the call has made.
+pub(crate) fn mirrored(a: state::Answer, store: Named) -> Answer
+    ensures { λ r. ⌜ r ≡ answer (a .number) store (stateOf (a .log)) ⌝ }
 {
     let log = a.log;
     Answer {
         number: a.number,
+        store,
         state: state_of(log),
     }
 }

@@ -10,7 +10,7 @@ use Rattle.scan.specs.Answers.{openingOf}
 use Rattle.state.specs.declared.State.{State}
 use Rattle.well.specs.Well.{wellFormed}
 use Rattle.recovery.specs.Recovery.{openAnswer, openedState}
-use Rattle.contracts.specs.Call.{opens, does, openOutcome}
+use Rattle.contracts.specs.Call.{opens, does, withoutStore}
 use Rattle.life.specs.Life.{History}
 use Rattle.life.proofs.Book.{Book, viewOf}
 use Rattle.life.proofs.Book.Sequences.{tail-of, place-of, starts-of}
@@ -28,7 +28,7 @@ opened-tied b = record { is = rw (starts-of (b .write) (b .olds), tail-of (b .wr
 module _ {l : List ℕ} {b : Book} {y : History} (r : Rests l b y) where
   pub open-does : (g : State) → does opens g l ≡ done (openedState (viewOf b)) noStore
   unfolding does openAnswer
-  open-does g = ap (λ (x : Scan). openOutcome (openAnswer x)) (opens-so r)
+  open-does g = ap (λ (x : Scan). withoutStore (openAnswer x)) (opens-so r)
 
   opened-knows : (p : List ℕ) → Knows (openedState (viewOf b)) l b p
   opened-knows p = record {

@@ -1,6 +1,7 @@
--- An unknown mode is refused; on a known one the step's answer is mirrored.
+-- An unknown mode is refused; on a known one the step's answer is mirrored, with the name of its store.
 use Rattle.contracts.specs.Call.{does}
 use Rattle.liftlog.proofs.Tells.{unknown-told, known-told}
+use Rattle.liftlog.proofs.Stored.{append-known, append-stored}
 use borrow.Author.Needs.{needs}
 use Rattle.liftlog.proofs.calls.liftlog_append.Statement.{statement}
 use Rattle.liftlog.proofs.calls.liftlog_append.Tie as tie
@@ -17,6 +18,9 @@ log-requires c κs = search needs
 append-requires : tie.Need-append-requires
 append-requires c κs = search needs
 
+of-append-requires : tie.Need-of-append-requires
+of-append-requires c κs = append-known _ _ _ _ _ (c .before .before .append .ensures)
+
 mirrored-requires : tie.Need-mirrored-requires
 mirrored-requires c κs = search needs
 
@@ -26,9 +30,11 @@ same-length c = search needs
 returns-2 : tie.Need-returns-2
 unfolding does
 returns-2 c =
-    let stepped = c .before .before .before in
-    let known = stepped .before .before in
-    known-told _ _ _ _ _ _ _ (known .before .if1 .left) (known .log .ensures) (stepped .append .ensures) (c .mirrored .ensures)
+    let did = c .before .before .before .before .append .ensures in
+    let known = c .before .before .before .before .before .before in
+    let log = known .log .ensures in
+    let store = append-stored _ _ _ _ _ did _ (c .before .of-append .ensures) in
+    known-told _ _ _ _ _ _ _ _ (known .before .if1 .left) (log .0) did store (c .mirrored .ensures)
 
 pub liftlog-append-spec : {M : Type 1} → statement M
 liftlog-append-spec =
@@ -38,6 +44,7 @@ liftlog-append-spec =
     returns
     log-requires
     append-requires
+    of-append-requires
     mirrored-requires
     same-length
     returns-2)

@@ -1,6 +1,6 @@
 -- As every step, without an image to change.
-use Rattle.contracts.specs.Call.{does}
-use Rattle.liftlog.proofs.Tells.{unknown-answer, known-answer}
+use Rattle.liftlog.proofs.Stored.{finish-told}
+use Rattle.liftlog.proofs.Tells.{unknown-answer}
 use borrow.Author.Needs.{needs}
 use Rattle.liftlog.proofs.calls.liftlog_head_finish.Statement.{statement}
 use Rattle.liftlog.proofs.calls.liftlog_head_finish.Tie as tie
@@ -17,15 +17,17 @@ log-requires c κs = search needs
 head-finish-requires : tie.Need-head-finish-requires
 head-finish-requires c κs = search needs
 
+nothing-requires : tie.Need-nothing-requires
+nothing-requires c κs = search needs
+
 mirrored-requires : tie.Need-mirrored-requires
 mirrored-requires c κs = search needs
 
 returns-2 : tie.Need-returns-2
-unfolding does
 returns-2 c =
-    let log = c .before .before .log in
-    let if1 = c .before .before .before .if1 in
-    rw (c .mirrored .ensures, c .before .head-finish .ensures, log .ensures) (known-answer _ _ _ (if1 .left))
+    let known = c .before .before .before in
+    rw (c .mirrored .ensures, c .before .nothing .ensures, c .before .before .head-finish .ensures, known .log .ensures .0)
+    (finish-told _ _ (known .before .if1 .left))
 
 pub liftlog-head-finish-spec : {M : Type 1} → statement M
 liftlog-head-finish-spec =
@@ -35,5 +37,6 @@ liftlog-head-finish-spec =
     returns
     log-requires
     head-finish-requires
+    nothing-requires
     mirrored-requires
     returns-2)

@@ -1,6 +1,7 @@
--- An unknown mode is refused; on a known one the step's answer is mirrored.
+-- An unknown mode is refused; on a known one the step's answer is mirrored, with the name of its store.
 use Rattle.contracts.specs.Call.{does}
 use Rattle.liftlog.proofs.Tells.{unknown-told, known-told}
+use Rattle.liftlog.proofs.Stored.{begin-stored}
 use borrow.Author.Needs.{needs}
 use Rattle.liftlog.proofs.calls.liftlog_roll_begin.Statement.{statement}
 use Rattle.liftlog.proofs.calls.liftlog_roll_begin.Tie as tie
@@ -17,6 +18,9 @@ log-requires c κs = search needs
 roll-begin-requires : tie.Need-roll-begin-requires
 roll-begin-requires c κs = search needs
 
+of-roll-begin-requires : tie.Need-of-roll-begin-requires
+of-roll-begin-requires c κs = search needs
+
 mirrored-requires : tie.Need-mirrored-requires
 mirrored-requires c κs = search needs
 
@@ -26,9 +30,11 @@ same-length c = search needs
 returns-2 : tie.Need-returns-2
 unfolding does
 returns-2 c =
-    let stepped = c .before .before .before in
-    let known = stepped .before .before in
-    known-told _ _ _ _ _ _ _ (known .before .if1 .left) (known .log .ensures) (stepped .roll-begin .ensures) (c .mirrored .ensures)
+    let did = c .before .before .before .before .roll-begin .ensures in
+    let known = c .before .before .before .before .before .before in
+    let log = known .log .ensures in
+    let store = begin-stored _ _ _ _ _ did _ (c .before .of-roll-begin .ensures) in
+    known-told _ _ _ _ _ _ _ _ (known .before .if1 .left) (log .0) did store (c .mirrored .ensures)
 
 pub liftlog-roll-begin-spec : {M : Type 1} → statement M
 liftlog-roll-begin-spec =
@@ -38,6 +44,7 @@ liftlog-roll-begin-spec =
     returns
     log-requires
     roll-begin-requires
+    of-roll-begin-requires
     mirrored-requires
     same-length
     returns-2)

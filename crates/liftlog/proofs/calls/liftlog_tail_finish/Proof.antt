@@ -1,6 +1,7 @@
--- An unknown mode is refused; on a known one the step's answer is mirrored.
+-- An unknown mode is refused; on a known one the step's answer is mirrored, with the name of its store.
 use Rattle.contracts.specs.Call.{does}
 use Rattle.liftlog.proofs.Tells.{unknown-told, known-told}
+use Rattle.liftlog.proofs.Stored.{rest-known, rest-stored}
 use borrow.Author.Needs.{needs}
 use Rattle.liftlog.proofs.calls.liftlog_tail_finish.Statement.{statement}
 use Rattle.liftlog.proofs.calls.liftlog_tail_finish.Tie as tie
@@ -17,6 +18,9 @@ log-requires c κs = search needs
 tail-finish-requires : tie.Need-tail-finish-requires
 tail-finish-requires c κs = search needs
 
+of-rest-requires : tie.Need-of-rest-requires
+of-rest-requires c κs = rest-known _ _ _ _ _ (c .before .before .tail-finish .ensures)
+
 mirrored-requires : tie.Need-mirrored-requires
 mirrored-requires c κs = search needs
 
@@ -26,9 +30,11 @@ same-length c = search needs
 returns-2 : tie.Need-returns-2
 unfolding does
 returns-2 c =
-    let stepped = c .before .before .before in
-    let known = stepped .before .before in
-    known-told _ _ _ _ _ _ _ (known .before .if1 .left) (known .log .ensures) (stepped .tail-finish .ensures) (c .mirrored .ensures)
+    let did = c .before .before .before .before .tail-finish .ensures in
+    let known = c .before .before .before .before .before .before in
+    let log = known .log .ensures in
+    let store = rest-stored _ _ _ _ _ did _ (c .before .of-rest .ensures) in
+    known-told _ _ _ _ _ _ _ _ (known .before .if1 .left) (log .0) did store (c .mirrored .ensures)
 
 pub liftlog-tail-finish-spec : {M : Type 1} → statement M
 liftlog-tail-finish-spec =
@@ -38,6 +44,7 @@ liftlog-tail-finish-spec =
     returns
     log-requires
     tail-finish-requires
+    of-rest-requires
     mirrored-requires
     same-length
     returns-2)

@@ -1,6 +1,7 @@
--- An unknown mode is refused; on a known one the step's answer is mirrored.
+-- An unknown mode is refused; on a known one the step's answer is mirrored, with the name of its store.
 use Rattle.contracts.specs.Call.{does}
 use Rattle.liftlog.proofs.Tells.{unknown-told, known-told}
+use Rattle.liftlog.proofs.Stored.{rest-known, rest-stored}
 use borrow.Author.Needs.{needs}
 use Rattle.liftlog.proofs.calls.liftlog_wipe.Statement.{statement}
 use Rattle.liftlog.proofs.calls.liftlog_wipe.Tie as tie
@@ -17,6 +18,9 @@ log-requires c κs = search needs
 wipe-requires : tie.Need-wipe-requires
 wipe-requires c κs = search needs
 
+of-rest-requires : tie.Need-of-rest-requires
+of-rest-requires c κs = rest-known _ _ _ _ _ (c .before .before .wipe .ensures)
+
 mirrored-requires : tie.Need-mirrored-requires
 mirrored-requires c κs = search needs
 
@@ -26,9 +30,11 @@ same-length c = search needs
 returns-2 : tie.Need-returns-2
 unfolding does
 returns-2 c =
-    let stepped = c .before .before .before in
-    let known = stepped .before .before in
-    known-told _ _ _ _ _ _ _ (known .before .if1 .left) (known .log .ensures) (stepped .wipe .ensures) (c .mirrored .ensures)
+    let did = c .before .before .before .before .wipe .ensures in
+    let known = c .before .before .before .before .before .before in
+    let log = known .log .ensures in
+    let store = rest-stored _ _ _ _ _ did _ (c .before .of-rest .ensures) in
+    known-told _ _ _ _ _ _ _ _ (known .before .if1 .left) (log .0) did store (c .mirrored .ensures)
 
 pub liftlog-wipe-spec : {M : Type 1} → statement M
 liftlog-wipe-spec =
@@ -38,6 +44,7 @@ liftlog-wipe-spec =
     returns
     log-requires
     wipe-requires
+    of-rest-requires
     mirrored-requires
     same-length
     returns-2)

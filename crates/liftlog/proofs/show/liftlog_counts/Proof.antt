@@ -23,7 +23,7 @@ count-requires c κs = search needs
 
 returns-2 : tie.Need-returns-2
 unfolding toldReport
-returns-2 c = rw (lt-ltb _ 10 (c .before .before .if1 .left), ← c .before .log .ensures, ← c .count .ensures)
+returns-2 c = rw (lt-ltb _ 10 (c .before .before .if1 .left), ← c .before .log .ensures .0, ← c .count .ensures)
 
 pub liftlog-counts-spec : {M : Type 1} → statement M
 liftlog-counts-spec =

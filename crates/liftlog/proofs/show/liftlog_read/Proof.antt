@@ -23,7 +23,7 @@ read-requires c κs = search needs
 
 returns-2 : tie.Need-returns-2
 unfolding toldReading
-returns-2 c = rw (lt-ltb _ 10 (c .before .before .if1 .left), ← c .before .log .ensures, ← c .read .ensures)
+returns-2 c = rw (lt-ltb _ 10 (c .before .before .if1 .left), ← c .before .log .ensures .0, ← c .read .ensures)
 
 pub liftlog-read-spec : {M : Type 1} → statement M
 liftlog-read-spec =
