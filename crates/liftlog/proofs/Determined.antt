@@ -3,8 +3,8 @@ use Prim.Native.Nat.{ℕ}
 use mathlib.Core.Path.{_≡_, sym, _∙_}
 use mathlib.Core.List.{List}
 use Rattle.contracts.specs.Call.{Call}
-use Rattle.liftlog.specs.declared.State.{State}
-use Rattle.liftlog.specs.declared.Answer.{Answer}
+use Rattle.mirror.specs.declared.State.{State}
+use Rattle.mirror.specs.declared.Answer.{Answer}
 use Rattle.liftlog.specs.declared.Reading.{Reading}
 use Rattle.liftlog.specs.declared.Report.{Report}
 use Rattle.liftlog.specs.Told.{Told, HeadFinishTold, CreateTold, OpenTold}

@@ -20,14 +20,14 @@ use Rattle.contracts.proofs.OnState.{state-call}
 use Rattle.contracts.proofs.Refusing.{create-leaves, open-leaves, refused-read-shows-nothing}
 use Rattle.contracts.proofs.Determined.{refused-counts-report-nothing}
 use Rattle.named.specs.Named.{nothing}
-use Rattle.liftlog.specs.declared.State.{State}
-use Rattle.liftlog.specs.declared.Answer.{Answer}
+use Rattle.mirror.specs.declared.State.{State}
+use Rattle.mirror.specs.declared.Answer.{Answer}
 use Rattle.liftlog.specs.declared.Reading.{Reading}
 use Rattle.liftlog.specs.declared.Report.{Report}
-use Rattle.liftlog.specs.Mirror.{known, logOf, stateOf}
-use Rattle.liftlog.specs.Told.{Told, HeadFinishTold, CreateTold, OpenTold, answer, mirrored, unknownNumber, toldAnswer, toldImage}
+use Rattle.mirror.specs.Mirror.{known, logOf, stateOf, answer, unknownNumber}
+use Rattle.liftlog.specs.Told.{Told, HeadFinishTold, CreateTold, OpenTold, mirrored, toldAnswer, toldImage}
 use Rattle.liftlog.specs.Shown.{reading, readingOf, toldReading, ReadTold, report, reportOf, toldReport, CountsTold}
-use Rattle.liftlog.proofs.Mirrors.{state-back}
+use Rattle.mirror.proofs.Mirrors.{state-back}
 
 -- ---- the steps
 

@@ -7,11 +7,11 @@ use mathlib.Core.List.{List}
 use Rattle.state.specs.State.{answer as logAnswer}
 use Rattle.outcome.specs.Outcome.{Did}
 use Rattle.contracts.specs.Call.{Call, does}
-use Rattle.liftlog.specs.declared.State.{State}
-use Rattle.liftlog.specs.declared.Answer.{Answer}
-use Rattle.liftlog.specs.Mirror.{known, logOf}
+use Rattle.mirror.specs.declared.State.{State}
+use Rattle.mirror.specs.declared.Answer.{Answer}
+use Rattle.mirror.specs.Mirror.{known, logOf}
 use Rattle.liftlog.specs.Told.{Told, toldAnswer, toldImage}
-use Rattle.liftlog.proofs.Mirrors.{log-back}
+use Rattle.mirror.proofs.Mirrors.{log-back}
 
 pub same-step :
     (call : Call) (state : State) (l : List ℕ) (r : Answer) (l′ : List ℕ)

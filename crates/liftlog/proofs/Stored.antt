@@ -42,9 +42,9 @@ use Rattle.contracts.proofs.OnState.{state-call}
 use Rattle.named.specs.declared.Named.{Named}
 use Rattle.named.specs.Named.{kindNo, metadata, record′, wipe, nothing, namedAs, named, whenDone}
 use Rattle.named.proofs.Names.{outcome-named, record-count, extent-count, wipe-count}
-use Rattle.liftlog.specs.declared.State.{State as Mirror}
-use Rattle.liftlog.specs.Mirror.{logOf, stateOf}
-use Rattle.liftlog.specs.Told.{answer, toldAnswer}
+use Rattle.mirror.specs.declared.State.{State as Mirror}
+use Rattle.mirror.specs.Mirror.{logOf, stateOf, answer}
+use Rattle.liftlog.specs.Told.{toldAnswer}
 use Rattle.liftlog.proofs.Tells.{known-answer}
 
 module _ (number : ℕ) (g next : State) (s : Store) (l l′ : List ℕ) (a : Answer) (did : Did (outcome number g next s) l a l′) where

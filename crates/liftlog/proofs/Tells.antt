@@ -12,10 +12,10 @@ use Rattle.outcome.specs.Enter.{sized}
 use Rattle.contracts.specs.Call.{Call, does}
 use Rattle.named.specs.declared.Named.{Named}
 use Rattle.named.specs.Named.{nothing, named}
-use Rattle.liftlog.specs.declared.State.{State}
-use Rattle.liftlog.specs.declared.Answer.{Answer}
-use Rattle.liftlog.specs.Mirror.{logOf, stateOf}
-use Rattle.liftlog.specs.Told.{Told, answer, mirrored, unknownNumber, toldAnswer, toldImage}
+use Rattle.mirror.specs.declared.State.{State}
+use Rattle.mirror.specs.declared.Answer.{Answer}
+use Rattle.mirror.specs.Mirror.{logOf, stateOf, answer, unknownNumber}
+use Rattle.liftlog.specs.Told.{Told, mirrored, toldAnswer, toldImage}
 
 module _ (call : Call) (state : State) (l : List ℕ) where
   pub unknown-answer : 10 ≤ state .mode → answer (unknownNumber (sized (state .e) (state .s) (length l))) nothing state ≡ toldAnswer call state l

@@ -10,11 +10,10 @@ use Rattle.counts.specs.declared.Counts.{Counts}
 use Rattle.counts.specs.Counts.{countsOf}
 use Rattle.read.specs.declared.Reading.{Reading as LogReading}
 use Rattle.read.specs.Read.{readAnswer}
-use Rattle.liftlog.specs.declared.State.{State}
+use Rattle.mirror.specs.declared.State.{State}
 use Rattle.liftlog.specs.declared.Reading.{Reading}
 use Rattle.liftlog.specs.declared.Report.{Report}
-use Rattle.liftlog.specs.Mirror.{known, logOf}
-use Rattle.liftlog.specs.Told.{unknownNumber}
+use Rattle.mirror.specs.Mirror.{known, logOf, unknownNumber}
 
 -- ---- read: the caller has its state still
 

@@ -1,12 +1,10 @@
 -- What a call over the mirror does: on a known mode what the call does, mirrored back, with the name of its store; on any other byte,
 -- which is a malformed state, 1 or 2, with state and image as they were and no store.
 use Prim.Native.Nat.{ℕ}
-use mathlib.Core.Bool.{Bool}
 use mathlib.Core.Path.{_≡_}
 use mathlib.Core.List.{List}
 use lib.ListN.{length}
-use Rattle.refusals.specs.Order.{when, must, firstOf}
-use Rattle.refusals.specs.Refusals.{SIZE, MALFORMED}
+use Rattle.refusals.specs.Order.{when}
 use Rattle.medium.specs.Store.{count, laid}
 use Rattle.scan.specs.Scan.{scan}
 use Rattle.outcome.specs.Outcome.{Outcome}
@@ -14,21 +12,13 @@ use Rattle.outcome.specs.Enter.{sized}
 use Rattle.create.specs.Create.{createAnswer, createImage}
 use Rattle.recovery.specs.Recovery.{openAnswer}
 use Rattle.contracts.specs.Call.{Call, headFinishes, withoutStore, does}
-use Rattle.named.specs.declared.Named.{Named}
 use Rattle.named.specs.Named.{nothing, named}
-use Rattle.liftlog.specs.declared.State.{State}
-use Rattle.liftlog.specs.declared.Answer.{Answer}
-use Rattle.liftlog.specs.Mirror.{known, logOf, stateOf}
-
-abbrev pub answer : ℕ → Named → State → Answer
-answer k store state = record { number = k; store = store; state = state }
+use Rattle.mirror.specs.declared.State.{State}
+use Rattle.mirror.specs.declared.Answer.{Answer}
+use Rattle.mirror.specs.Mirror.{known, logOf, stateOf, answer, unknownNumber}
 
 abbrev pub mirrored : Outcome → Answer
 mirrored o = answer (o .number) (named (o .store)) (stateOf (o .next))
-
--- a byte that is no mode: 1 where the sizes are wrong, else 2
-unfoldable pub unknownNumber : Bool → ℕ
-unknownNumber sizes = firstOf (must sizes SIZE) MALFORMED
 
 unfoldable pub toldAnswer : Call → State → List ℕ → Answer
 toldAnswer call state l =

@@ -1,7 +1,6 @@
 // The calls that make a state: create, once, before the log's life; open, at any time, from the image alone.
 ghost use Rattle.liftlog.specs.Told.{CreateTold, OpenTold};
-use crate::Answer;
-use crate::mirror;
+use mirror::Answer;
 
 #[no_mangle]
 pub extern "C" fn liftlog_create(image: &mut [u8], e: u32, s: u8) -> Answer

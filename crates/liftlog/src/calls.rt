@@ -2,9 +2,8 @@
 // mirrors, and names the store that it has made. What a step does is said in the crate of its subject.
 ghost use Rattle.contracts.specs.Call.{wipes, marks, appends, rollBegins, rollWrites, rollLists, headStarts, tailStarts, tailFinishes, closes};
 ghost use Rattle.liftlog.specs.Told.{Told, HeadFinishTold};
-use crate::Answer;
-use crate::State;
-use crate::mirror;
+use mirror::Answer;
+use mirror::State;
 use record::Lsn;
 
 #[no_mangle]

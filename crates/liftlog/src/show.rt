@@ -2,9 +2,7 @@
 ghost use Rattle.liftlog.specs.Shown.{ReadTold, CountsTold};
 use crate::Reading;
 use crate::Report;
-use crate::State;
-use crate::mirror;
-use crate::told;
+use mirror::State;
 use record::Lsn;
 
 #[no_mangle]
@@ -12,7 +10,7 @@ pub extern "C" fn liftlog_read(state: State, image: &[u8], lsn: Lsn) -> Reading
     ensures { λ r. ⌜ ReadTold state (now (image .entry)) (lsn .0) r ⌝ }
 {
     if mirror::UNKNOWN <= state.mode {
-        let number = told::unknown_number(outcome::sized(state.e, state.s, image.len()));
+        let number = mirror::unknown_number(outcome::sized(state.e, state.s, image.len()));
         return Reading {
             number,
             place: 0,
@@ -32,7 +30,7 @@ pub extern "C" fn liftlog_counts(state: State) -> Report
     ensures { λ r. ⌜ CountsTold state r ⌝ }
 {
     if mirror::UNKNOWN <= state.mode {
-        let number = told::unknown_number(metadata::sizes_ok(state.e, state.s));
+        let number = mirror::unknown_number(metadata::sizes_ok(state.e, state.s));
         return Report {
             number,
             free: 0,

@@ -1,10 +1,14 @@
--- The mirror of a state: the same fields, the mode as a byte.
+-- The mirror of a state: the same fields, the mode as a byte; and what a byte that is no mode is answered.
 use Prim.Native.Nat.{ℕ}
 use mathlib.Core.Bool.{Bool}
 use lib.Dec.{ltb}
+use Rattle.refusals.specs.Order.{must, firstOf}
+use Rattle.refusals.specs.Refusals.{SIZE, MALFORMED}
 use Rattle.table.specs.Next.{modeNo, modeOf}
 use Rattle.state.specs.declared.State.{State as Log}
-use Rattle.liftlog.specs.declared.State.{State}
+use Rattle.named.specs.declared.Named.{Named}
+use Rattle.mirror.specs.declared.State.{State}
+use Rattle.mirror.specs.declared.Answer.{Answer}
 
 -- the byte is one of the ten modes'
 abbrev pub known : ℕ → Bool
@@ -45,3 +49,10 @@ stateOf g = record {
   n = g .n;
   «roll_slot» = g .«roll_slot»;
 }
+
+abbrev pub answer : ℕ → Named → State → Answer
+answer k store state = record { number = k; store = store; state = state }
+
+-- a byte that is no mode: 1 where the sizes are wrong, else 2
+unfoldable pub unknownNumber : Bool → ℕ
+unknownNumber sizes = firstOf (must sizes SIZE) MALFORMED

@@ -6,8 +6,8 @@ use borrow.Author.Tests.{ltb-true, lt-ltb}
 use Rattle.table.specs.Next.{modeNo}
 use Rattle.table.proofs.Rule.{mode-below, mode-back, number-back}
 use Rattle.state.specs.declared.State.{State as Log}
-use Rattle.liftlog.specs.declared.State.{State}
-use Rattle.liftlog.specs.Mirror.{known, logOf, stateOf}
+use Rattle.mirror.specs.declared.State.{State}
+use Rattle.mirror.specs.Mirror.{known, logOf, stateOf}
 
 pub log-back : (g : Log) → logOf (stateOf g) ≡ g
 unfolding logOf stateOf
