@@ -6,7 +6,7 @@ use Rattle.metadata.specs.Layout.{area}
 use Rattle.metadata.specs.Metadata.{sizesOk, listed, metadataBytes, allBelow, rules, valueOf, numberOf}
 use Rattle.table.specs.Next.{nextOf}
 use Rattle.slots.specs.Entries.{among, distinct, rising, leading}
-use Rattle.slots.specs.Word.{word, count, lowest, isFree}
+use Rattle.free.specs.Word.{word, count, lowest, isFree}
 use Rattle.scan.specs.Scan.{extentsIn, allBegin, joined, tailOf, placeOf, headInFirst, extentsOk, openNumber, scan}
 use Rattle.scan.specs.Answers.{openingOf, refusedOpening}
 use Rattle.state.specs.Change.{zeroState}

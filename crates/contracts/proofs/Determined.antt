@@ -5,7 +5,7 @@ use mathlib.Core.Bool.{Bool, true, false}
 use borrow.Author.Tests.{eqb-false}
 use lib.Dec.{eqb}
 use Rattle.refusals.specs.Order.{when}
-use Rattle.slots.specs.Word.{count}
+use Rattle.free.specs.Word.{count}
 use Rattle.state.specs.declared.State.{State}
 use Rattle.state.specs.State.{freeIn}
 use Rattle.counts.specs.declared.Counts.{Counts}

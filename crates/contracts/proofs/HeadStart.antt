@@ -8,11 +8,11 @@ use lib.Seq.{getD-take}
 use Rattle.metadata.proofs.Below.{below-at}
 use Rattle.table.specs.Modes.{inRoll, hasH}
 use Rattle.slots.specs.Entries.{lsnNos, among}
-use Rattle.slots.specs.Word.{isFree}
+use Rattle.free.specs.Word.{isFree}
 use Rattle.slots.proofs.Order.{rising-above, rising-drop}
 use Rattle.slots.proofs.Members.{among-at, distinct-drop, distinct-apart}
-use Rattle.slots.proofs.Words.{at-word, none-at}
-use Rattle.slots.proofs.Free.{free-kept}
+use Rattle.free.proofs.Words.{at-word, none-at}
+use Rattle.free.proofs.Free.{free-kept}
 use Rattle.state.specs.declared.State.{State}
 use Rattle.state.specs.State.{slotsIn, startsIn, lastStart}
 use Rattle.well.proofs.Facts.{Well, Listed, Headed, Placed, Pending, Roll, differ}

@@ -6,9 +6,9 @@ use borrow.Author.Tests.{ne-eqb}
 use lib.ListN.{length}
 use Rattle.table.specs.Modes.{inRoll}
 use Rattle.table.specs.declared.Step.the-variants.{HeadFinish, RollList}
-use Rattle.slots.specs.Word.{bitAt}
-use Rattle.slots.proofs.Words.{none-at, one-at}
-use Rattle.slots.proofs.Free.{free-kept, free-says}
+use Rattle.free.specs.Word.{bitAt}
+use Rattle.free.proofs.Words.{none-at, one-at}
+use Rattle.free.proofs.Free.{free-kept, free-says}
 use Rattle.state.specs.declared.State.{State}
 use Rattle.state.specs.State.{slotsIn, orZero, freeIn}
 use Rattle.well.proofs.Facts.{differ, roll-slot-below}

@@ -2,8 +2,8 @@
 use mathlib.Core.Path.{_≡_}
 use mathlib.Core.Bool.{false}
 use Rattle.table.specs.Modes.{inRoll}
-use Rattle.slots.specs.Word.{bitAt}
-use Rattle.slots.proofs.Words.{none-at}
+use Rattle.free.specs.Word.{bitAt}
+use Rattle.free.proofs.Words.{none-at}
 use Rattle.state.specs.declared.State.{State}
 use Rattle.well.proofs.Facts.{Pending, Resting, Roll, differ}
 

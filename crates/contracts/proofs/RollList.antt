@@ -11,13 +11,13 @@ use lib.Seq.{drop-append-le, getD-append-seam}
 use Rattle.table.specs.declared.Step.the-variants.{RollList}
 use Rattle.table.specs.Modes.{inRoll, hasH}
 use Rattle.slots.specs.Entries.{among, leading, rising}
-use Rattle.slots.specs.Word.{bitAt, isFree}
+use Rattle.free.specs.Word.{bitAt, isFree}
 use Rattle.slots.proofs.Front.{leading-le}
 use Rattle.slots.proofs.Order.{rising-above, rising-drop, rising-snoc}
 use Rattle.slots.proofs.Members.{among-append, among-drop, distinct-drop, distinct-snoc}
 use Rattle.slots.proofs.Another.{below-snoc}
-use Rattle.slots.proofs.Words.{none-at}
-use Rattle.slots.proofs.Free.{Free, free-kept, free-says}
+use Rattle.free.proofs.Words.{none-at}
+use Rattle.free.proofs.Free.{Free, free-kept, free-says}
 use Rattle.state.specs.declared.State.{State}
 use Rattle.state.specs.State.{slotsIn, startsIn, lastStart}
 use Rattle.well.proofs.Facts.{Well, Listed, Headed, Placed, Pending, Rolling, differ}

@@ -9,9 +9,9 @@ use Rattle.table.specs.declared.Step.{Step}
 use Rattle.table.specs.declared.Step.the-variants.{Append, HeadFinish, Close}
 use Rattle.table.specs.Modes.{inRoll, hasH}
 use Rattle.table.proofs.Rule.{all}
-use Rattle.slots.specs.Word.{isFree}
-use Rattle.slots.proofs.Words.{none-at}
-use Rattle.slots.proofs.Free.{Free, free-kept, free-says, free-lowest}
+use Rattle.free.specs.Word.{isFree}
+use Rattle.free.proofs.Words.{none-at}
+use Rattle.free.proofs.Free.{Free, free-kept, free-says, free-lowest}
 use Rattle.state.specs.declared.State.{State}
 use Rattle.state.specs.State.{slotsIn, heldIn}
 use Rattle.state.specs.Change.{inMode, tailAt, marking, pendingAt, rolling}

@@ -5,7 +5,7 @@ use mathlib.Core.List.{List, []}
 use lib.ListN.{getD}
 use Rattle.refusals.specs.Refusals.{DONE}
 use Rattle.metadata.specs.Layout.{slotPlace}
-use Rattle.slots.specs.Word.{count}
+use Rattle.free.specs.Word.{count}
 use Rattle.state.specs.declared.State.{State}
 use Rattle.state.specs.declared.Answer.{Answer}
 use Rattle.state.specs.State.{writeSlot, freeIn}

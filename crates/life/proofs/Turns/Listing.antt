@@ -13,7 +13,7 @@ use Rattle.metadata.proofs.Facts.{sizes-say}
 use Rattle.table.specs.declared.Step.the-variants.{RollList}
 use Rattle.table.specs.Modes.{inRoll}
 use Rattle.slots.specs.Entries.{leading}
-use Rattle.slots.proofs.Free.{Free, free-says}
+use Rattle.free.proofs.Free.{Free, free-says}
 use Rattle.scan.specs.Scan.{Extent}
 use Rattle.state.specs.declared.State.{State}
 use Rattle.state.specs.Change.{listing, tailAt}

@@ -17,7 +17,7 @@ use Rattle.stores.proofs.Bytes.{extent-length}
 use Rattle.table.specs.declared.Step.the-variants.{RollWrite}
 use Rattle.table.specs.Modes.{inRoll}
 use Rattle.slots.specs.Entries.{among}
-use Rattle.slots.proofs.Free.{free-says, free-lowest}
+use Rattle.free.proofs.Free.{free-says, free-lowest}
 use Rattle.scan.specs.Scan.{slotPart}
 use Rattle.scan.proofs.Within.{slot-within, slot-length}
 use Rattle.state.specs.declared.State.{State}
