@@ -52,7 +52,11 @@ module _ (number : ℕ) (g next : State) (s : Store) (l l′ : List ℕ) (a : An
   pub told-number : a .number ≡ number
   told-number = ap (λ (x : Answer). x .number) (did .answer) ∙ number-is number g next s
 
-  stored : (n : ℕ) (r : Named) → (number ≡ 0 → count s ≡ n) → r ≡ whenDone (a .number) (kindNo (s .kind)) (s .place) n → r ≡ named (outcome number g next s .store)
+  stored :
+      (n : ℕ) (r : Named)
+      → (number ≡ 0 → count s ≡ n)
+      → r ≡ whenDone (a .number) (kindNo (s .kind)) (s .place) n
+      → r ≡ named (outcome number g next s .store)
   stored n r f e =
       e ∙ ap (λ (k : ℕ). whenDone k (kindNo (s .kind)) (s .place) n) told-number ∙ sym (outcome-named number g next s n f)
 
@@ -63,7 +67,9 @@ finish-stored g l = by (eqb (enterNumber HeadFinish g (length l)) 0)
   where
     by :
         (t : Bool)
-        → let o = when {A = Outcome} t (record { number = 0; next = unpendedState g; store = noStore }) (record { number = enterNumber HeadFinish g (length l); next = g; store = noStore }) in
+        → let done : Outcome = record { number = 0; next = unpendedState g; store = noStore } in
+        let refused : Outcome = record { number = enterNumber HeadFinish g (length l); next = g; store = noStore } in
+        let o = when t done refused in
         nothing ≡ namedAs (kindNo (o .store .kind)) (o .store .place) (count (o .store))
     by true = refl
     by false = refl

@@ -7,7 +7,8 @@ use Rattle.logrun_core.proofs.input.pass_lines.Statement.{statement}
 use Rattle.logrun_core.proofs.input.pass_lines.Tie as tie
 
 abbrev Inv-loop : tie.InvT-loop
-Inv-loop space₀ out₀ bytes is-long now-bench₀ end₀ from₀ too-long₀ stop₀ space out now-bench end from too-long stop = (end ≤ length out) × (from ≤ stop) × (stop ≤ length bytes) × (length space ≡ length space₀) × (length out ≡ length out₀)
+Inv-loop space₀ out₀ bytes is-long now-bench₀ end₀ from₀ too-long₀ stop₀ space out now-bench end from too-long stop =
+    (end ≤ length out) × (from ≤ stop) × (stop ≤ length bytes) × (length space ≡ length space₀) × (length out ≡ length out₀)
 
 abbrev μ-loop : tie.MeasureT-loop
 μ-loop space₀ out₀ bytes is-long now-bench₀ end₀ from₀ too-long₀ stop₀ space out now-bench end from too-long stop = length bytes - stop

@@ -36,23 +36,31 @@ four-words-requires c κs = search needs
 
 returns : tie.Need-returns
 returns c =
-    let line = line-of (c .before .before .before .before .before .before .before .before .args .line .now) 1 (sym (c .before .before .word-count .ensures) ∙ c .before .match .keys1) in
-    rw (c .before .before .before .before .before .before .word .ensures .0) at (c .one-word .ensures) ∙ sym line
+    let ws = c .before .before .before .before .before .before in
+    let line = line-of (ws .before .before .args .line .now) 1 (sym (c .before .before .word-count .ensures) ∙ c .before .match .keys1) in
+    rw (ws .word .ensures .0) at (c .one-word .ensures)
+    ∙ sym line
 
 returns-2 : tie.Need-returns-2
 returns-2 c =
-    let line = line-of (c .before .before .before .before .before .before .before .before .args .line .now) 2 (sym (c .before .before .word-count .ensures) ∙ c .before .match .keys2) in
-    rw (c .before .before .before .before .before .before .word .ensures .0, c .before .before .before .before .before .word2 .ensures .0) at (c .two-words .ensures) ∙ sym line
+    let ws = c .before .before .before .before .before .before in
+    let line = line-of (ws .before .before .args .line .now) 2 (sym (c .before .before .word-count .ensures) ∙ c .before .match .keys2) in
+    rw (ws .word .ensures .0, c .before .before .before .before .before .word2 .ensures .0) at (c .two-words .ensures)
+    ∙ sym line
 
 returns-3 : tie.Need-returns-3
 returns-3 c =
-    let line = line-of (c .before .before .before .before .before .before .before .before .args .line .now) 3 (sym (c .before .before .word-count .ensures) ∙ c .before .match .keys3) in
-    rw (c .before .before .before .before .before .before .word .ensures .0, c .before .before .before .before .before .word2 .ensures .0, c .before .before .before .before .word3 .ensures .0) at (c .three-words .ensures) ∙ sym line
+    let ws = c .before .before .before .before .before .before in
+    let line = line-of (ws .before .before .args .line .now) 3 (sym (c .before .before .word-count .ensures) ∙ c .before .match .keys3) in
+    rw (ws .word .ensures .0, c .before .before .before .before .before .word2 .ensures .0, c .before .before .before .before .word3 .ensures .0) at (c .three-words .ensures)
+    ∙ sym line
 
 returns-4 : tie.Need-returns-4
 returns-4 c =
-    let line = line-of (c .before .before .before .before .before .before .before .before .args .line .now) 4 (sym (c .before .before .word-count .ensures) ∙ c .before .match .keys4) in
-    rw (c .before .before .before .before .before .before .word .ensures .0, c .before .before .before .before .before .word2 .ensures .0, c .before .before .before .before .word3 .ensures .0, c .before .before .before .word4 .ensures .0) at (c .four-words .ensures) ∙ sym line
+    let ws = c .before .before .before .before .before .before in
+    let line = line-of (ws .before .before .args .line .now) 4 (sym (c .before .before .word-count .ensures) ∙ c .before .match .keys4) in
+    rw (ws .word .ensures .0, c .before .before .before .before .before .word2 .ensures .0, c .before .before .before .before .word3 .ensures .0, c .before .before .before .word4 .ensures .0) at (c .four-words .ensures)
+    ∙ sym line
 
 returns-5 : tie.Need-returns-5
 returns-5 c =

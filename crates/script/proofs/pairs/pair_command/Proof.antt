@@ -87,14 +87,17 @@ returns-3 c =
     sym (named ∙ rw (read-first (c .before .before .before .before), none))
 
 made-requires : tie.Need-made-requires
-made-requires c κs = (omega (arith, c .before .before .before .before .before .before .before .before .before .before), bounded _ _ _ (read-first (c .before .before .before .before .before)), bounded _ _ _ (read-second c))
+made-requires c κs =
+    let first = c .before .before .before .before .before in
+    (omega (arith, first .before .before .before .before .before), bounded _ _ _ (read-first first), bounded _ _ _ (read-second c))
 
 returns-4 : tie.Need-returns-4
 unfolding words pairCommand
 returns-4 c =
-    let i = c .before .before .before .before .before .before .before .before .before .before .before .before .index in
-    let a = c .before .before .before .before .before .before .before .before .before .before .before .before .before .before .before .before .before .args in
-    let named = entry-named (pairWith (a .a .now) (a .b .now)) (pairAt 4) pairs Command.Bad (a .word .now) (i .result) (i .ensures) (omega (arith, c .before .before .before .before .before .before .before .before .before .before .before)) in
+    let found = c .before .before .before .before .before .before .before .before .before .before .before in
+    let i = found .before .index in
+    let a = found .before .before .before .before .before .before .args in
+    let named = entry-named (pairWith (a .a .now) (a .b .now)) (pairAt 4) pairs Command.Bad (a .word .now) (i .result) (i .ensures) (omega (arith, found)) in
     c .made .ensures ∙ sym (named ∙ rw (read-first (c .before .before .before .before .before .before), read-second (c .before)))
 
 pub pair-command-spec : {M : Type 1} → statement M

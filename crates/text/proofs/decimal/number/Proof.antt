@@ -87,7 +87,8 @@ returns-5 c =
     let a = c .before .before .before .before .before .args in
     let at = c .before .loop in
     let value = at .inv .2 ∙ value-end (a .word .now) (at .i) (at .v) (omega arith) in
-    ap Number (sym value) ∙ sym (says (a .bound) (a .word .now) (sym (c .before .before .before .begins .ensures) ∙ c .before .before .if1 .taken) (at .inv .3 ∙ digits-end _ (at .i) (omega arith)) (rw value (at .inv .1)))
+    let begins = sym (c .before .before .before .begins .ensures) ∙ c .before .before .if1 .taken in
+    ap Number (sym value) ∙ sym (says (a .bound) (a .word .now) begins (at .inv .3 ∙ digits-end _ (at .i) (omega arith)) (rw value (at .inv .1)))
 
 pub number-spec : {M : Type 1} → statement M
 number-spec =
