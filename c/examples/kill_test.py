@@ -88,8 +88,8 @@ def output(command, image):
 class Test:
     def __init__(self, arguments, folder):
         runner = [arguments.emulator] if arguments.emulator else []
-        self.box = [*runner, "target/examples/box"]
-        self.live = [*runner, "target/examples/live"]
+        self.box = [*runner, "target/c/box"]
+        self.live = [*runner, "target/c/live"]
         self.random = random.Random(arguments.seed)
         self.file = folder / "log"
         self.sent = folder / "sent"
@@ -161,7 +161,7 @@ class Test:
     def keep_image(self):
         if not self.file.exists():
             return "there is no file"
-        kept = Path("target/examples/failed")
+        kept = Path("target/c/failed")
         kept.write_bytes(self.file.read_bytes())
         return f"the image is in {kept}"
 

@@ -7,32 +7,27 @@ enum { MOST_WORDS = 4 };
 
 static const uint64_t MOST = UINT32_MAX;
 
-static const char *const CALL_NAMES[CALLS] = {
-    "open", "wipe", "mark", "list", "headfinish", "tailfinish", "close", "counts",
-    "append", "write",
-    "begin", "head", "tail", "read",
-};
+/* What stands behind a call's name is told by its shape. */
+enum shape { NOTHING, PLAIN, LOOK, PAYLOAD, LENGTH, LSN, LSN_LOOK, SIZES };
 
-static const char *const FIELD_NAMES[FIELDS] = {
-    "mode", "E", "S", "n", "head", "tail", "last", "version", "place", "pending", "rollslot", "rolllen",
-};
+#define CALL_NAME(NAME, name, shape, word, ...) word,
+#define CALL_SHAPE(NAME, name, shape, ...) shape,
+static const char *const CALL_NAMES[CALL_COUNT] = {CALLS(CALL_NAME)};
+static const enum shape SHAPES[CALL_COUNT] = {CALLS(CALL_SHAPE)};
 
-static const uint64_t FIELD_MOST[FIELDS] = {
-    9, UINT32_MAX, 255, 255, UINT32_MAX, UINT32_MAX, UINT32_MAX, 65535, UINT32_MAX, UINT64_MAX, 255, UINT32_MAX,
-};
+#define FIELD_NAME(field, type, offset, word, most) word,
+#define FIELD_LARGEST(field, type, offset, word, most) most,
+static const char *const FIELD_NAMES[FIELD_COUNT] = {FIELDS(FIELD_NAME)};
+static const uint64_t FIELD_MOST[FIELD_COUNT] = {FIELDS(FIELD_LARGEST)};
 
 /* The commands of two numbers, with the largest of each. */
+#define ENTRY_PAIR(field, type, offset, name, word, most) {word, SET_##field, 63, most},
 static const struct pair {
     const char *name;
     enum kind kind;
     uint64_t first;
     uint64_t second;
-} PAIRS[] = {
-    {"create", CREATE, UINT32_MAX, 255},
-    {"poke", POKE, UINT32_MAX, 255},
-    {"setslot", SET_SLOT, 63, 255},
-    {"setstart", SET_START, 63, UINT32_MAX},
-};
+} PAIRS[] = {{"create", LAY, UINT32_MAX, UINT8_MAX}, {"poke", POKE, UINT32_MAX, UINT8_MAX}, ARRAYS(ENTRY_PAIR)};
 
 struct word {
     const char *at;
@@ -100,7 +95,7 @@ static unsigned digit(char c)
 /* A payload: `-` for none, else two digits for each byte. */
 static bool payload(struct word w, struct command *c)
 {
-    c->length = 0;
+    c->p = 0;
     if (is(w, "-"))
         return true;
     if (w.length == 0 || w.length % 2 != 0)
@@ -110,31 +105,37 @@ static bool payload(struct word w, struct command *c)
         unsigned low = digit(w.at[i + 1]);
         if (high > 15 || low > 15)
             return false;
-        c->payload[c->length++] = (uint8_t)(high * 16 + low);
+        c->payload[c->p++] = (uint8_t)(high * 16 + low);
     }
     return true;
 }
 
 static bool plain_call(struct word name, struct command *c)
 {
-    c->call = (enum call)position(name, CALL_NAMES, CALLS);
-    return c->call < APPEND;
+    size_t at = position(name, CALL_NAMES, CALL_COUNT);
+    c->call = (enum call)at;
+    return at < CALL_COUNT && SHAPES[at] <= LOOK;
 }
 
 static bool argument_call(struct word name, struct word argument, struct command *c)
 {
-    c->call = (enum call)position(name, CALL_NAMES, CALLS);
-    if (c->call < APPEND || c->call == CALLS)
+    size_t at = position(name, CALL_NAMES, CALL_COUNT);
+    c->call = (enum call)at;
+    if (at == CALL_COUNT)
         return false;
-    if (c->call < BEGIN)
-        return payload(argument, c);
-    return number(argument, MOST, &c->first);
+    switch (SHAPES[at]) {
+    case PAYLOAD: return payload(argument, c);
+    case LENGTH: return number(argument, MOST, &c->p);
+    case LSN:
+    case LSN_LOOK: return number(argument, MOST, &c->lsn);
+    default: return false;
+    }
 }
 
 static enum kind set(struct word name, struct word value, struct command *c)
 {
-    c->field = (enum field)position(name, FIELD_NAMES, FIELDS);
-    if (c->field == FIELDS)
+    c->field = (enum field)position(name, FIELD_NAMES, FIELD_COUNT);
+    if (c->field == FIELD_COUNT)
         return BAD;
     return number(value, FIELD_MOST[c->field], &c->first) ? SET : BAD;
 }

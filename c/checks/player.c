@@ -23,25 +23,18 @@ static liftlog_state no_state(void)
 /* A call that only looks leaves the state. */
 static liftlog_answer looked(uint8_t number)
 {
-    return (liftlog_answer){number, state};
+    return (liftlog_answer){.number = number, .state = state};
 }
 
 static liftlog_answer call(const struct command *c)
 {
-    uint32_t lsn = (uint32_t)c->first;
+    const uint8_t *payload = c->payload;
+    size_t p = (size_t)c->p;
+    uint32_t lsn = (uint32_t)c->lsn;
     switch (c->call) {
+#define STEP(NAME, name, shape, ...) case NAME: return liftlog_##name(state, GIVES_##shape);
+    STEPS(STEP)
     case OPEN: return liftlog_open(image, length);
-    case WIPE: return liftlog_wipe(state, image, length);
-    case MARK: return liftlog_mark(state, image, length);
-    case APPEND: return liftlog_append(state, image, length, c->payload, c->length);
-    case BEGIN: return liftlog_roll_begin(state, image, length, (size_t)c->first);
-    case WRITE: return liftlog_roll_write(state, image, length, c->payload, c->length);
-    case LIST: return liftlog_roll_list(state, image, length);
-    case HEAD: return liftlog_head_start(state, image, length, lsn);
-    case HEAD_FINISH: return liftlog_head_finish(state, image, length);
-    case TAIL: return liftlog_tail_start(state, image, length, lsn);
-    case TAIL_FINISH: return liftlog_tail_finish(state, image, length);
-    case CLOSE: return liftlog_close(state, image, length);
     case READ: return looked(liftlog_read(state, image, length, lsn).number);
     default: return looked(liftlog_counts(state).number);
     }
@@ -51,7 +44,7 @@ static liftlog_answer call(const struct command *c)
 static void show_view(const struct command *c)
 {
     if (c->call == READ) {
-        liftlog_reading r = liftlog_read(state, image, length, (uint32_t)c->first);
+        liftlog_reading r = liftlog_read(state, image, length, (uint32_t)c->lsn);
         printf(" %zu %zu", r.place, r.length);
         show_bytes(image + r.place, r.length);
     }
@@ -61,14 +54,15 @@ static void show_view(const struct command *c)
     }
 }
 
-/* The state is lost, whatever the call answered. */
+/* The call works on memory, and what arrives of its store is on the device, which begins with the image before the call. That is
+ * the image from then on. The state is lost, whatever the call answered. */
 static void cut(const struct command *c)
 {
-    static uint8_t before[LONGEST_IMAGE];
-    memcpy(before, image, length);
+    static uint8_t kept[LONGEST_IMAGE];
+    memcpy(kept, image, length);
     liftlog_answer a = call(c);
-    if (a.number == LIFTLOG_DONE)
-        cut_store(image, before, c, &state, &a.state);
+    carry_cut(kept, image, a.store, c->k);
+    memcpy(image, kept, length);
     printf(" %u", a.number);
     state = no_state();
 }
@@ -83,18 +77,9 @@ static void set(const struct command *c)
 {
     uint64_t v = c->first;
     switch (c->field) {
-    case FIELD_MODE: state.mode = (uint8_t)v; break;
-    case FIELD_E: state.e = (uint32_t)v; break;
-    case FIELD_S: state.s = (uint8_t)v; break;
-    case FIELD_N: state.n = (uint8_t)v; break;
-    case FIELD_HEAD: state.head = (uint32_t)v; break;
-    case FIELD_TAIL: state.tail = (uint32_t)v; break;
-    case FIELD_LAST: state.last = (uint32_t)v; break;
-    case FIELD_VERSION: state.version = (uint16_t)v; break;
-    case FIELD_PLACE: state.place = (uint32_t)v; break;
-    case FIELD_PENDING: state.pending = v; break;
-    case FIELD_ROLL_SLOT: state.roll_slot = (uint8_t)v; break;
-    default: state.roll_len = (uint32_t)v; break;
+#define SET_FIELD(field, type, ...) case FIELD_##field: state.field = (type)v; break;
+    FIELDS(SET_FIELD)
+    case FIELD_COUNT: break;
     }
 }
 
@@ -109,7 +94,7 @@ static void perform(const struct command *c)
 {
     switch (c->kind) {
     case NEW: renew((size_t)c->first); break;
-    case CREATE: take(liftlog_create(image, length, (uint32_t)c->first, (uint8_t)c->second)); break;
+    case LAY: take(liftlog_create(image, length, (uint32_t)c->first, (uint8_t)c->second)); break;
     case DO: take(call(c)); show_view(c); break;
     case CUT: cut(c); break;
     case POKE:
@@ -117,8 +102,8 @@ static void perform(const struct command *c)
             image[c->first] = (uint8_t)c->second;
         break;
     case SET: set(c); break;
-    case SET_SLOT: state.slots[c->first] = (uint8_t)c->second; break;
-    case SET_START: state.starts[c->first] = (uint32_t)c->second; break;
+#define SET_ENTRY(field, type, ...) case SET_##field: state.field[c->first] = (type)c->second; break;
+    ARRAYS(SET_ENTRY)
     default: show_bytes(image, length); break;
     }
 }

@@ -1,6 +1,6 @@
-/* The file: made, mapped, and stored to in pieces. */
+/* The file: made, mapped, and written to in pieces. */
 #define _DEFAULT_SOURCE
-#include "medium.h"
+#include "file.h"
 
 #include <errno.h>
 #include <fcntl.h>
@@ -13,8 +13,6 @@
 #include <sys/mman.h>
 #include <sys/stat.h>
 #include <unistd.h>
-
-#include "liftlog.h"
 
 enum { SECTOR = 512, LONGEST_NAME = 4096 };
 
@@ -52,47 +50,37 @@ static void make(const char *name, uint32_t e, uint8_t s)
     free(image);
 }
 
-struct medium medium_open(const char *name, uint32_t e, uint8_t s)
+struct file file_open(const char *name, uint32_t e, uint8_t s)
 {
     struct stat found;
     if (stat(name, &found) != 0 ? errno == ENOENT : found.st_size == 0)
         make(name, e, s);
-    struct medium m = {.name = name, .file = open(name, O_RDWR | O_DSYNC)};
-    expect(m.file >= 0 && fstat(m.file, &found) == 0, name, "open");
-    expect(flock(m.file, LOCK_EX | LOCK_NB) == 0, name, "another program has it");
-    m.length = (size_t)found.st_size;
-    m.image = mmap(NULL, m.length, PROT_READ | PROT_WRITE, MAP_PRIVATE, m.file, 0);
-    expect(m.image != MAP_FAILED, name, "map");
-    return m;
+    struct file file = {.name = name, .handle = open(name, O_RDWR | O_DSYNC)};
+    expect(file.handle >= 0 && fstat(file.handle, &found) == 0, name, "open");
+    expect(flock(file.handle, LOCK_EX | LOCK_NB) == 0, name, "another program has it");
+    file.length = (size_t)found.st_size;
+    file.image = mmap(NULL, file.length, PROT_READ | PROT_WRITE, MAP_PRIVATE, file.handle, 0);
+    expect(file.image != MAP_FAILED, name, "map");
+    return file;
 }
 
-static void carry(const struct medium *m, size_t from, size_t to)
+/* One piece. Metadata lie in the first sector, and so are one too. */
+static int put(void *context, size_t place, const uint8_t *bytes, size_t count)
 {
-    ssize_t taken = pwrite(m->file, m->image + from, to - from, (off_t)from);
-    expect(taken == (ssize_t)(to - from), m->name, "write");
+    const struct file *file = context;
+    ssize_t taken = pwrite(file->handle, bytes, count, (off_t)place);
+    if (taken == (ssize_t)count)
+        return 0;
+    return taken < 0 ? errno : EIO;
 }
 
-void carry_metadata(const struct medium *m)
+static int zero(void *context, size_t place, size_t count)
 {
-    carry(m, 0, LIFTLOG_METADATA);
+    static const uint8_t zeros[SECTOR];
+    return put(context, place, zeros, count);
 }
 
-void carry_record(const struct medium *m, size_t from, size_t to)
+liftlog_device file_device(struct file *file)
 {
-    while (from < to) {
-        size_t border = (from / SECTOR + 1) * SECTOR;
-        size_t end = border < to ? border : to;
-        carry(m, from, end);
-        from = end;
-    }
-}
-
-void carry_wipe(const struct medium *m, size_t from, size_t to)
-{
-    while (from < to) {
-        size_t border = (to - 1) / SECTOR * SECTOR;
-        size_t start = border > from ? border : from;
-        carry(m, start, to);
-        to = start;
-    }
+    return (liftlog_device){file, SECTOR, put, zero, put};
 }

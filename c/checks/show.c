@@ -4,6 +4,8 @@
 #include <inttypes.h>
 #include <stdio.h>
 
+#include "lists.h"
+
 /* CRC-32 as zlib and gzip have it, half a byte at a time. */
 static uint32_t half(uint32_t crc)
 {
@@ -40,14 +42,13 @@ void show_state(const liftlog_state *s, const uint8_t *image, size_t length)
 {
     /* A malformed state may claim more entries than there are. */
     unsigned listed = s->n < 64 ? s->n : 64;
-    printf(" | %u %" PRIu32 " %u %u", s->mode, s->e, s->s, s->n);
-    printf(" %" PRIu32 " %" PRIu32 " %" PRIu32 " %u", s->head, s->tail, s->last, s->version);
-    printf(" %" PRIu32 " %" PRIu64 " %u %" PRIu32, s->place, s->pending, s->roll_slot, s->roll_len);
-    printf(" slots=");
-    for (unsigned i = 0; i < listed; i++)
-        printf("%s%u", comma(i), s->slots[i]);
-    printf(" starts=");
-    for (unsigned i = 0; i < listed; i++)
-        printf("%s%" PRIu32, comma(i), s->starts[i]);
+    printf(" |");
+#define SHOW_FIELD(field, ...) printf(" %" PRIu64, (uint64_t)s->field);
+    FIELDS(SHOW_FIELD)
+#define SHOW_ARRAY(field, type, offset, name, ...)               \
+    printf(" %s=", name);                                        \
+    for (unsigned i = 0; i < listed; i++)                        \
+        printf("%s%" PRIu64, comma(i), (uint64_t)s->field[i]);
+    ARRAYS(SHOW_ARRAY)
     printf(" image=%zu:%08" PRIx32 "\n", length, crc32(image, length));
 }

@@ -1,21 +1,25 @@
 /* liftlog: a proved write-ahead log for a lift's translator box, for C.
  *
  * The log lives in one image of bytes that the caller lends: 84 bytes of metadata, then S slots of E bytes. The state is a value:
- * each call takes it and hands it back changed, in an answer beside a number. 0 is done; any other number is a refusal, and
- * then neither image nor state has changed. Every call takes every input: any state, any image, any length.
+ * each call takes it and hands it back changed, in an answer beside a number and the store that the call has made. 0 is done; any
+ * other number is a refusal, and then neither image nor state has changed. Every call takes every input: any state, any image, any
+ * length. A null pointer with length 0 is an empty part.
  *
  * The life of a log: liftlog_create lays a fresh image, once. From then on liftlog_open, at any time, from the image alone;
  * liftlog_wipe; liftlog_mark; and the log runs. After a power cut the state is lost, the image remains, and open finds every record
  * that was done and not removed.
  *
- * What a cut may leave of a store is the medium's part: metadata arrive whole or not at all, a record front to back, a wipe last
- * byte first. Plain memory promises no such order, for a compiler may lay a store's bytes down in any. So where the image must
- * outlive the program, let the calls work on a copy in memory, and carry each call's one store to the medium in that order, before
- * anything is passed on (examples/medium.c).
+ * The calls are proved for every input. What the caller owes:
  *
- * Link with libliftlog.a. The functions are proved for every input. What the caller owes: each call gets the state that the call before
- * handed back, and after a power cut only open's (a state is a value, and two calls on one old copy of it would both answer 0);
- * nobody else writes the image; a pointer and its length name memory that it may use, and image and payload do not overlap. */
+ * - Each call gets the state that the call before handed back, and after a power cut only open's. A state is a value, and two calls
+ *   on one old copy of it would both answer 0.
+ * - Nobody else writes the image. A pointer and its length name memory that the call may use, and image and payload do not overlap.
+ * - The medium's order: of a store that is cut, metadata arrive whole or not at all, a record front to back, a wipe last byte first.
+ *   Plain memory promises no such order, for a compiler may lay a store's bytes down in any. So where the image must outlive the
+ *   program, let the calls work on a copy in memory, and carry each answer's store to the medium in that order, before anything is
+ *   passed on: liftlog_carry of liftlog_medium.h does it.
+ *
+ * Link with -lliftlog. */
 #ifndef LIFTLOG_H
 #define LIFTLOG_H
 
@@ -80,6 +84,15 @@ enum {
     LIFTLOG_SLOT_TWICE = 16      /* open: a slot is listed twice */
 };
 
+/* ---- Kinds of store, by how a medium takes their bytes */
+
+enum {
+    LIFTLOG_STORE_NONE = 0,
+    LIFTLOG_STORE_METADATA = 1,  /* whole or not at all */
+    LIFTLOG_STORE_RECORD = 2,    /* front to back */
+    LIFTLOG_STORE_WIPE = 3       /* zeros, last byte first */
+};
+
 /* ---- Values */
 
 /* The state of a log. The listed extents are the first n entries of slots and starts; the last is the write extent, and place
@@ -102,9 +115,19 @@ typedef struct liftlog_state {
     uint8_t roll_slot;    /* the slot that a roll holds, otherwise 0 */
 } liftlog_state;
 
-/* What a call answers: its number and the next state. */
+/* What a call has stored: its kind, its place in the image and its count of bytes, which stand in the image there. None, with place
+ * and count 0, when the call is refused or stores nothing. Create lays the whole image before the log's life begins: its answer
+ * names none, and the caller carries all of the image. */
+typedef struct liftlog_store {
+    size_t place;
+    size_t count;
+    uint8_t kind;
+} liftlog_store;
+
+/* What a call answers: its number, its store and the next state. */
 typedef struct liftlog_answer {
     uint8_t number;
+    liftlog_store store;
     liftlog_state state;
 } liftlog_answer;
 

@@ -4,12 +4,12 @@
 #include <stdlib.h>
 #include <string.h>
 
-#include "liftlog.h"
-#include "medium.h"
+#include "file.h"
 
 enum { REFUSED = 1, USAGE = 2, LINE_TOO_LONG = 3 };
 
-static struct medium m;
+static struct file file;
+static liftlog_device device;
 static liftlog_state state;
 
 static const char *meaning(unsigned number)
@@ -25,67 +25,51 @@ static const char *meaning(unsigned number)
     }
 }
 
-/* Takes the state of a done call; any refusal ends the program. */
+/* Takes a done call: its store goes to the file, and its state is the next. A refusal and a failing file end the program. */
 static void take(liftlog_answer a, const char *call)
 {
     if (a.number != LIFTLOG_DONE) {
-        fprintf(stderr, "box: %s: %s is refused with %u: %s\n", m.name, call, a.number, meaning(a.number));
+        fprintf(stderr, "box: %s: %s is refused with %u: %s\n", file.name, call, a.number, meaning(a.number));
         exit(REFUSED);
+    }
+    int failed = liftlog_carry(&device, file.image, a.store);
+    if (failed != 0) {
+        fprintf(stderr, "box: %s: %s: %s\n", file.name, call, strerror(failed));
+        exit(EXIT_FAILURE);
     }
     state = a.state;
 }
 
-static size_t slot_place(uint8_t slot)
-{
-    return LIFTLOG_METADATA + (size_t)slot * state.e;
-}
-
-/* The write extent's place in the image. */
-static size_t write_extent(void)
-{
-    return slot_place(state.slots[state.n - 1]);
-}
-
 static void recover(void)
 {
-    take(liftlog_open(m.image, m.length), "open");
-    take(liftlog_wipe(state, m.image, m.length), "wipe");
-    carry_wipe(&m, write_extent() + state.place, write_extent() + state.e);
-    take(liftlog_mark(state, m.image, m.length), "mark");
-    carry_metadata(&m);
+    take(liftlog_open(file.image, file.length), "open");
+    take(liftlog_wipe(state, file.image, file.length), "wipe");
+    take(liftlog_mark(state, file.image, file.length), "mark");
 }
 
 /* The first extent goes, with all its records. Where no slot is free there is a second one. */
 static void drop_oldest(void)
 {
-    take(liftlog_head_start(state, m.image, m.length, state.starts[1]), "head start");
-    carry_metadata(&m);
-    take(liftlog_head_finish(state, m.image, m.length), "head finish");
+    take(liftlog_head_start(state, file.image, file.length, state.starts[1]), "head start");
+    take(liftlog_head_finish(state, file.image, file.length), "head finish");
 }
 
 static void roll(const uint8_t *line, size_t p)
 {
     if (liftlog_counts(state).free == 0)
         drop_oldest();
-    take(liftlog_roll_begin(state, m.image, m.length, p), "roll begin");
-    size_t slot = slot_place(state.roll_slot);
-    carry_wipe(&m, slot, slot + state.e);
-    take(liftlog_roll_write(state, m.image, m.length, line, p), "roll write");
-    carry_record(&m, slot, slot + 5 + p + LIFTLOG_RECORD);
-    take(liftlog_roll_list(state, m.image, m.length), "roll list");
-    carry_metadata(&m);
+    take(liftlog_roll_begin(state, file.image, file.length, p), "roll begin");
+    take(liftlog_roll_write(state, file.image, file.length, line, p), "roll write");
+    take(liftlog_roll_list(state, file.image, file.length), "roll list");
 }
 
 static void log_line(const uint8_t *line, size_t p)
 {
-    size_t place = write_extent() + state.place;
-    liftlog_answer a = liftlog_append(state, m.image, m.length, line, p);
-    if (a.number == LIFTLOG_NO_ROOM) {
+    liftlog_answer a = liftlog_append(state, file.image, file.length, line, p);
+    if (a.number == LIFTLOG_NO_ROOM)
         roll(line, p);
-        return;
-    }
-    take(a, "append");
-    carry_record(&m, place, place + p + LIFTLOG_RECORD);
+    else
+        take(a, "append");
 }
 
 /* The length of the next line without its end, or one above the longest payload when it is longer; -1 at the end of input. */
@@ -152,10 +136,10 @@ int main(int count, char **words)
     uint32_t s = number(count == 4 ? words[3] : "15", LIFTLOG_S_LEAST, LIFTLOG_S_MOST);
     if (e == 0 || s == 0)
         return usage(stderr, USAGE);
-    m = medium_open(words[1], e, (uint8_t)s);
+    file = file_open(words[1], e, (uint8_t)s);
+    device = file_device(&file);
     recover();
     int status = log_input();
-    take(liftlog_close(state, m.image, m.length), "close");
-    carry_metadata(&m);
+    take(liftlog_close(state, file.image, file.length), "close");
     return status;
 }

@@ -6,24 +6,17 @@
 #include <stddef.h>
 #include <stdint.h>
 
+#include "lists.h"
+
 enum { LONGEST_LINE = 4096, LONGEST_IMAGE = 65536 };
 
-/* The calls that can be cut: first those of a name alone, then those with a payload, then those with a number. */
-enum call {
-    OPEN, WIPE, MARK, LIST, HEAD_FINISH, TAIL_FINISH, CLOSE, COUNTS,
-    APPEND, WRITE,
-    BEGIN, HEAD, TAIL, READ,
-    CALLS
-};
-
 /* The state's fields, in the order in which they are printed. */
-enum field {
-    FIELD_MODE, FIELD_E, FIELD_S, FIELD_N, FIELD_HEAD, FIELD_TAIL, FIELD_LAST, FIELD_VERSION, FIELD_PLACE, FIELD_PENDING,
-    FIELD_ROLL_SLOT, FIELD_ROLL_LEN,
-    FIELDS
-};
+#define SCRIPT_FIELD(field, ...) FIELD_##field,
+enum field { FIELDS(SCRIPT_FIELD) FIELD_COUNT };
 
-enum kind { BAD, NEW, CREATE, DO, CUT, POKE, SET, SET_SLOT, SET_START, DUMP };
+/* A new image, create, another call, a call cut, a byte of the image, a field of the state, an entry of each array, the image. */
+#define SCRIPT_ENTRY(field, ...) SET_##field,
+enum kind { BAD, NEW, LAY, DO, CUT, POKE, SET, ARRAYS(SCRIPT_ENTRY) DUMP };
 
 /* What a line says. A kind has the members that its name needs: CUT has call, its argument and k; SET has field and first. */
 struct command {
@@ -33,7 +26,8 @@ struct command {
     uint64_t first;
     uint64_t second;
     uint64_t k;
-    size_t length;
+    uint64_t lsn;
+    uint64_t p;
     uint8_t payload[LONGEST_LINE / 2];
 };
 
