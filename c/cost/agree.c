@@ -1,14 +1,13 @@
 /* agree [CALLS [SEED]]: random calls on all sides, with good and bad arguments, on states and images that are sound, made up or
- * damaged. Number, state, image and what was found are compared after each; the first difference ends the run. */
+ * damaged. Number, store, state, image and what was found are compared after each; the first difference ends the run. */
 #include "chance.h"
 #include "forge.h"
+#include "same.h"
 #include "sides.h"
 
 #include <stdio.h>
 #include <stdlib.h>
 #include <string.h>
-
-enum { NUMBERS = 17 };
 
 /* A log as one side has it. */
 struct box {
@@ -19,13 +18,15 @@ struct box {
 static struct box boxes[SIDES];
 static size_t length;
 static uint8_t payload[LIFTLOG_PAYLOAD_MOST + 2];
-static unsigned long given[NUMBERS];
+static unsigned long given[NUMBER_COUNT];
 
 /* What the outcome of a call on one more side, and its box, have other than the first side's; NULL if nothing. */
 static const char *difference(const struct outcome *first, const struct outcome *out, const struct box *box, size_t image_length)
 {
     if (first->number != out->number)
         return "number";
+    if (!same_store(&first->store, &out->store))
+        return "store";
     if (memcmp(first->found, out->found, sizeof first->found) != 0)
         return "what it found";
     if (!same_state(&boxes[0].state, &box->state))
@@ -45,8 +46,8 @@ static int compared(enum call call, const struct arguments *with, size_t image_l
         const char *what = difference(&first, &out, &boxes[i], image_length);
         if (what == NULL)
             continue;
-        fprintf(stderr, "agree: %s differs in %s: %s %d, %s %d\n", call_names[call], what, sides[0]->name, first.number,
-                sides[i]->name, out.number);
+        fprintf(stderr, "agree: %s differs in %s: %s %d, %s %d\n", call_names[call], what, sides[0]->title, first.number,
+                sides[i]->title, out.number);
         exit(1);
     }
     given[first.number]++;
@@ -161,7 +162,7 @@ static void call_with_other_length(void)
         if (changed < other)
             boxes[i].image[changed] = byte;
     }
-    compared(one_in(3) ? OPEN : (enum call)below(CALLS), &with, other);
+    compared(one_in(3) ? OPEN : (enum call)below(CALL_COUNT), &with, other);
     for (int i = 0; i < SIDES; i++) {
         free(boxes[i].image);
         boxes[i] = kept[i];
@@ -235,11 +236,11 @@ int main(int count, char **words)
     while (made < wanted) {
         live();
         made = 0;
-        for (int i = 0; i < NUMBERS; i++)
+        for (int i = 0; i < NUMBER_COUNT; i++)
             made += given[i];
     }
     printf("agree: %lu calls, no difference\nnumber  times given\n", made);
-    for (int i = 0; i < NUMBERS; i++)
+    for (int i = 0; i < NUMBER_COUNT; i++)
         printf("%6d  %11lu\n", i, given[i]);
     return 0;
 }

@@ -5,6 +5,7 @@
  * counts. The rounds of a job are spread over several passes, so that what else the machine does for a while does not fall on
  * one line. Before each pass the sides are compared: they must leave the same state and image. */
 #define _POSIX_C_SOURCE 199309L
+#include "same.h"
 #include "work.h"
 
 #include <math.h>

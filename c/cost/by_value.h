@@ -3,80 +3,37 @@
  * that name, SIDE for the side and SIDE_NAME for what it is called in print. */
 #include "sides.h"
 
-static int kept(liftlog_state *state, const liftlog_answer *answer)
+static int kept(liftlog_state *state, liftlog_store *store, const liftlog_answer *answer)
 {
     *state = answer->state;
+    *store = answer->store;
     return answer->number;
 }
 
-/* A step that takes the state and the image alone. */
-#define STEP(name)                                                              \
-    static int call_##name(liftlog_state *state, uint8_t *image, size_t length) \
-    {                                                                           \
-        liftlog_answer answer = CALL(name)(*state, image, length);              \
-        return kept(state, &answer);                                            \
+#define STEP(NAME, name, shape, ...)                                                     \
+    static int call_##name(liftlog_state *state, TAKES_##shape, liftlog_store *store)    \
+    {                                                                                    \
+        liftlog_answer answer = CALL(name)(*state, GIVES_##shape);                       \
+        return kept(state, store, &answer);                                              \
     }
 
-static int call_create(liftlog_state *state, uint8_t *image, size_t length, uint32_t e, uint8_t s)
+STEPS(STEP)
+
+static int call_create(liftlog_state *state, TAKES_SIZES, liftlog_store *store)
 {
-    liftlog_answer answer = CALL(create)(image, length, e, s);
-    return kept(state, &answer);
+    liftlog_answer answer = CALL(create)(GIVES_SIZES);
+    return kept(state, store, &answer);
 }
 
-static int call_open(liftlog_state *state, const uint8_t *image, size_t length)
+static int call_open(liftlog_state *state, TAKES_LOOK, liftlog_store *store)
 {
-    liftlog_answer answer = CALL(open)(image, length);
-    return kept(state, &answer);
+    liftlog_answer answer = CALL(open)(GIVES_LOOK);
+    return kept(state, store, &answer);
 }
 
-STEP(wipe)
-STEP(mark)
-
-static int call_append(liftlog_state *state, uint8_t *image, size_t length, const uint8_t *payload, size_t p)
+static int call_read(const liftlog_state *state, TAKES_LSN_LOOK, size_t *place, size_t *payload_length)
 {
-    liftlog_answer answer = CALL(append)(*state, image, length, payload, p);
-    return kept(state, &answer);
-}
-
-static int call_roll_begin(liftlog_state *state, uint8_t *image, size_t length, size_t p)
-{
-    liftlog_answer answer = CALL(roll_begin)(*state, image, length, p);
-    return kept(state, &answer);
-}
-
-static int call_roll_write(liftlog_state *state, uint8_t *image, size_t length, const uint8_t *payload, size_t p)
-{
-    liftlog_answer answer = CALL(roll_write)(*state, image, length, payload, p);
-    return kept(state, &answer);
-}
-
-STEP(roll_list)
-
-static int call_head_start(liftlog_state *state, uint8_t *image, size_t length, uint32_t h)
-{
-    liftlog_answer answer = CALL(head_start)(*state, image, length, h);
-    return kept(state, &answer);
-}
-
-static int call_head_finish(liftlog_state *state, const uint8_t *image, size_t length)
-{
-    liftlog_answer answer = CALL(head_finish)(*state, image, length);
-    return kept(state, &answer);
-}
-
-static int call_tail_start(liftlog_state *state, uint8_t *image, size_t length, uint32_t t)
-{
-    liftlog_answer answer = CALL(tail_start)(*state, image, length, t);
-    return kept(state, &answer);
-}
-
-STEP(tail_finish)
-STEP(close)
-
-static int call_read(const liftlog_state *state, const uint8_t *image, size_t length, uint32_t lsn, size_t *place,
-                     size_t *payload_length)
-{
-    liftlog_reading reading = CALL(read)(*state, image, length, lsn);
+    liftlog_reading reading = CALL(read)(*state, GIVES_LSN);
     *place = reading.place;
     *payload_length = reading.length;
     return reading.number;
@@ -90,21 +47,5 @@ static int call_counts(const liftlog_state *state, uint32_t *free_slots, uint32_
     return report.number;
 }
 
-const struct side SIDE = {
-    .name = SIDE_NAME,
-    .create = call_create,
-    .open = call_open,
-    .wipe = call_wipe,
-    .mark = call_mark,
-    .append = call_append,
-    .roll_begin = call_roll_begin,
-    .roll_write = call_roll_write,
-    .roll_list = call_roll_list,
-    .head_start = call_head_start,
-    .head_finish = call_head_finish,
-    .tail_start = call_tail_start,
-    .tail_finish = call_tail_finish,
-    .close = call_close,
-    .read = call_read,
-    .counts = call_counts,
-};
+#define MEMBER(NAME, name, ...) .name = call_##name,
+const struct side SIDE = {.title = SIDE_NAME, CALLS(MEMBER)};

@@ -65,7 +65,7 @@ liftlog_state forged_state(uint32_t e, uint8_t s)
     state.e = e;
     state.s = s;
     state.n = (uint8_t)(one_in(3) ? s - below(2) : from_to(1, s));
-    state.mode = (uint8_t)below(10);
+    state.mode = (uint8_t)below(MODE_COUNT);
     state.version = (uint16_t)(one_in(4) ? from_to(65534, 65535) : from_to(1, 9));
     shuffle(order, s);
     memcpy(state.slots, order, state.n);
@@ -123,7 +123,7 @@ void damage_state(liftlog_state *state)
     case 1: damage_slot(state); break;
     case 2: damage_size(state); break;
     case 3: state->mode = (uint8_t)(one_in(4) ? draw() : below(12)); break;
-    default: ((uint8_t *)state)[below(offsetof(liftlog_state, roll_slot) + 1)] ^= (uint8_t)(1u << below(8)); break;
+    default: ((uint8_t *)state)[below(sizeof *state)] ^= (uint8_t)(1u << below(8)); break;
     }
 }
 

@@ -2,7 +2,7 @@
 #ifndef FORGE_H
 #define FORGE_H
 
-#include "liftlog.h"
+#include "lists.h"
 
 /* A state of the given E and S, of any mode, that is well formed but has no image behind it. */
 liftlog_state forged_state(uint32_t e, uint8_t s);

@@ -56,31 +56,31 @@ static size_t measured(const struct side *side, enum call call, struct bed *log,
 }
 
 /* Every call once, in an order in which each is done. The LSN is that of the second extent's second record. */
-static void measure_life(const struct side *side, size_t taken[CALLS])
+static void measure_life(const struct side *side, size_t taken[CALL_COUNT])
 {
-    static const enum call life[CALLS] = {ROLL_BEGIN, ROLL_WRITE,  ROLL_LIST, APPEND, READ, HEAD_START, HEAD_FINISH, COUNTS,
-                                          TAIL_START, TAIL_FINISH, CLOSE,     OPEN,   WIPE, MARK,       CREATE};
+    static const enum call life[CALL_COUNT] = {ROLL_BEGIN, ROLL_WRITE, ROLL_LIST,  APPEND,      READ,  HEAD_START, HEAD_FINISH, COUNTS,
+                                               TAIL_START, TAIL_FINISH, CLOSE, OPEN, WIPE, MARK, CREATE};
     struct bed log = made_bed(4096, 64, 1, FULL);
     uint32_t lsn = log.state.tail + 1;
-    size_t empty = measured(side, CALLS, &log, lsn);
+    size_t empty = measured(side, CALL_COUNT, &log, lsn);
 
-    for (int i = 0; i < CALLS; i++) {
+    for (int i = 0; i < CALL_COUNT; i++) {
         uint32_t aim = life[i] == HEAD_START ? lsn - 1 : lsn;
         taken[life[i]] = measured(side, life[i], &log, aim) - empty;
         if (task.outcome.number != LIFTLOG_DONE)
-            printf("stack: %s by the %s side gives %d\n", call_names[life[i]], side->name, task.outcome.number);
+            printf("stack: %s by the %s side gives %d\n", call_names[life[i]], side->title, task.outcome.number);
     }
     free(log.image);
 }
 
 int main(void)
 {
-    size_t taken[SIDES][CALLS];
+    size_t taken[SIDES][CALL_COUNT];
 
     for (int i = 0; i < SIDES; i++)
         measure_life(sides[i], taken[i]);
     printf("Bytes of stack a call, the caller's state and answer included.\n");
-    for (int i = 0; i < CALLS; i++)
+    for (int i = 0; i < CALL_COUNT; i++)
         printf("%-12s proved %6zu   twin %6zu   by value %6zu\n", call_names[i], taken[PROVED][i], taken[TWIN][i],
                taken[BY_VALUE][i]);
     return 0;

@@ -5,7 +5,8 @@
 #include <string.h>
 
 static uint8_t payload[LIFTLOG_PAYLOAD_MOST];
-static uint8_t store[LIFTLOG_PAYLOAD_MOST + 14];
+static uint8_t bytes[LIFTLOG_PAYLOAD_MOST + 14];
+static liftlog_store store;
 static volatile uint32_t sink;
 
 /* ---- Floors */
@@ -46,9 +47,9 @@ int work_append(const struct side *side, struct bed *log, const struct job *job)
 
     for (unsigned i = 0; i < job->calls; i++) {
         if (side != NULL)
-            number |= side->append(&log->state, log->image, log->length, payload, job->p);
+            number |= side->append(&log->state, log->image, log->length, payload, job->p, &store);
         else
-            memcpy(at + i * (job->p + LIFTLOG_RECORD), store, job->p + LIFTLOG_RECORD);
+            memcpy(at + i * (job->p + LIFTLOG_RECORD), bytes, job->p + LIFTLOG_RECORD);
     }
     return number;
 }
@@ -58,23 +59,23 @@ int work_roll(const struct side *side, struct bed *log, const struct job *job)
     if (side == NULL) {
         uint8_t *extent = log->image + LIFTLOG_IMAGE(log->state.e, log->state.n);
         memset(extent, 0, log->state.e);
-        memcpy(extent, store, job->p + 14);
-        memcpy(log->image, store, LIFTLOG_METADATA);
+        memcpy(extent, bytes, job->p + 14);
+        memcpy(log->image, bytes, LIFTLOG_METADATA);
         return 0;
     }
-    return side->roll_begin(&log->state, log->image, log->length, job->p) |
-           side->roll_write(&log->state, log->image, log->length, payload, job->p) |
-           side->roll_list(&log->state, log->image, log->length);
+    return side->roll_begin(&log->state, log->image, log->length, job->p, &store) |
+           side->roll_write(&log->state, log->image, log->length, payload, job->p, &store) |
+           side->roll_list(&log->state, log->image, log->length, &store);
 }
 
 int work_head(const struct side *side, struct bed *log, const struct job *job)
 {
     if (side == NULL) {
-        memcpy(log->image, store, LIFTLOG_METADATA);
+        memcpy(log->image, bytes, LIFTLOG_METADATA);
         return 0;
     }
-    return side->head_start(&log->state, log->image, log->length, job->lsn) |
-           side->head_finish(&log->state, log->image, log->length);
+    return side->head_start(&log->state, log->image, log->length, job->lsn, &store) |
+           side->head_finish(&log->state, log->image, log->length, &store);
 }
 
 int work_tail(const struct side *side, struct bed *log, const struct job *job)
@@ -83,18 +84,18 @@ int work_tail(const struct side *side, struct bed *log, const struct job *job)
         uint8_t *extent = write_extent(log);
         look_at(extent + 5, extent + job->place, UINT32_MAX);
         memset(extent + job->place, 0, log->state.e - job->place);
-        memcpy(log->image, store, LIFTLOG_METADATA);
+        memcpy(log->image, bytes, LIFTLOG_METADATA);
         return 0;
     }
-    return side->tail_start(&log->state, log->image, log->length, job->lsn) |
-           side->tail_finish(&log->state, log->image, log->length);
+    return side->tail_start(&log->state, log->image, log->length, job->lsn, &store) |
+           side->tail_finish(&log->state, log->image, log->length, &store);
 }
 
 int work_open(const struct side *side, struct bed *log, const struct job *job)
 {
     (void)job;
     if (side != NULL)
-        return side->open(&log->state, log->image, log->length);
+        return side->open(&log->state, log->image, log->length, &store);
     for (unsigned i = 0; i < log->state.n; i++) {
         const uint8_t *extent = log->image + LIFTLOG_IMAGE(log->state.e, log->state.slots[i]);
         look_at(extent + 5, extent + log->state.e, listed_in(&log->state, i));
@@ -136,7 +137,7 @@ int work_counts(const struct side *side, struct bed *log, const struct job *job)
         if (side != NULL)
             number |= side->counts(&log->state, &free_slots, &live);
         else
-            memcpy(store, &log->state, sizeof log->state);
+            memcpy(bytes, &log->state, sizeof log->state);
     }
     return number;
 }
