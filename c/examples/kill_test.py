@@ -100,7 +100,7 @@ class Test:
 
     def moment(self):
         """Mostly in start-up and recovery, or deep in the run."""
-        return self.random.choice([0, self.random.uniform(0, 0.003), self.random.uniform(0, 0.03)])
+        return self.random.choice([0, self.random.uniform(0, self.whole / 10), self.random.uniform(0, self.whole)])
 
     def fresh_file(self):
         self.rolls += self.expected.rolls
@@ -109,11 +109,24 @@ class Test:
         self.expected = Expected()
         self.file.unlink(missing_ok=True)
 
-    def run_and_kill(self):
-        first = self.expected.next
+    def start(self, sent, echoed):
+        return subprocess.Popen([*self.box, self.file, str(E), str(S)], stdin=sent, stdout=echoed)
+
+    def send_from(self, first):
         self.sent.write_bytes(b"".join(line(x) + b"\n" for x in range(first, first + LINES_A_RUN)))
+
+    def time_whole_run(self):
+        """How long a run takes that nothing kills: under an emulator far longer."""
+        self.send_from(1)
+        begun = time.monotonic()
         with open(self.sent, "rb") as sent, open(self.echoed, "wb") as echoed:
-            box = subprocess.Popen([*self.box, self.file, str(E), str(S)], stdin=sent, stdout=echoed)
+            expect(self.start(sent, echoed).wait() == 0, "box does not end with 0")
+        self.whole = time.monotonic() - begun
+
+    def run_and_kill(self):
+        self.send_from(self.expected.next)
+        with open(self.sent, "rb") as sent, open(self.echoed, "wb") as echoed:
+            box = self.start(sent, echoed)
             time.sleep(self.moment())
             box.kill()
             status = box.wait()
@@ -166,6 +179,7 @@ class Test:
         return f"the image is in {kept}"
 
     def go(self, kills):
+        self.time_whole_run()
         run = 0
         while self.kills < kills:
             if run % RUNS_A_FILE == 0:
