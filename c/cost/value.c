@@ -2,33 +2,35 @@
 #include "value.h"
 #include "twin.h"
 
-#define STEP(NAME, name, shape, ...)                                                \
-    liftlog_answer value_##name(liftlog_state state, TAKES_##shape)                 \
-    {                                                                               \
-        liftlog_answer answer;                                                      \
-        answer.number = (uint8_t)twin_##name(&state, GIVES_##shape, &answer.store); \
-        answer.state = state;                                                       \
-        return answer;                                                              \
+static liftlog_answer answered(int number, const liftlog_store *store, const liftlog_state *state)
+{
+    return (liftlog_answer){(uint8_t)number, *store, *state};
+}
+
+#define STEP(NAME, name, shape, ...)                                    \
+    liftlog_answer value_##name(liftlog_state state, TAKES_##shape)     \
+    {                                                                   \
+        liftlog_store store;                                            \
+        int number = twin_##name(&state, GIVES_##shape, &store);        \
+        return answered(number, &store, &state);                        \
     }
 
 STEPS(STEP)
 
 liftlog_answer value_create(TAKES_SIZES)
 {
-    liftlog_answer answer;
     liftlog_state state;
-    answer.number = (uint8_t)twin_create(&state, GIVES_SIZES, &answer.store);
-    answer.state = state;
-    return answer;
+    liftlog_store store;
+    int number = twin_create(&state, GIVES_SIZES, &store);
+    return answered(number, &store, &state);
 }
 
 liftlog_answer value_open(TAKES_LOOK)
 {
-    liftlog_answer answer;
     liftlog_state state;
-    answer.number = (uint8_t)twin_open(&state, GIVES_LOOK, &answer.store);
-    answer.state = state;
-    return answer;
+    liftlog_store store;
+    int number = twin_open(&state, GIVES_LOOK, &store);
+    return answered(number, &store, &state);
 }
 
 liftlog_reading value_read(liftlog_state state, TAKES_LSN_LOOK)
