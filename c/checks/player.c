@@ -54,21 +54,40 @@ static void show_view(const struct command *c)
     }
 }
 
-/* The call works on memory, and what arrives of its store is on the device, which begins with the image before the call. That is
- * the image from then on. The state is lost, whatever the call answered. */
-static void cut(const struct command *c)
+/* The device: what it holds after a call is kept. */
+static uint8_t kept[LONGEST_IMAGE];
+
+/* The call works on memory, and k bytes of its store arrive on the device, which begins with the image before the call. */
+static liftlog_answer carried(const struct command *c, uint64_t k)
 {
-    static uint8_t kept[LONGEST_IMAGE];
     memcpy(kept, image, length);
     liftlog_answer a = call(c);
-    carry_cut(kept, image, a.store, c->k);
-    memcpy(image, kept, length);
+    carry_cut(kept, image, a.store, k);
     printf(" %u", a.number);
+    return a;
+}
+
+/* A store that arrives whole is all that the call has changed. */
+static void whole(const struct command *c)
+{
+    state = carried(c, UINT64_MAX).state;
+    if (memcmp(kept, image, length) == 0)
+        return;
+    fprintf(stderr, "player: what is carried of call %d is not what it changed\n", c->call);
+    exit(EXIT_FAILURE);
+}
+
+/* What has arrived is the image from then on. The state is lost, whatever the call answered. */
+static void cut(const struct command *c)
+{
+    carried(c, c->k);
+    memcpy(image, kept, length);
     state = no_state();
 }
 
-static void take(liftlog_answer a)
+static void create(const struct command *c)
 {
+    liftlog_answer a = liftlog_create(image, length, (uint32_t)c->first, (uint8_t)c->second);
     printf(" %u", a.number);
     state = a.state;
 }
@@ -94,8 +113,8 @@ static void perform(const struct command *c)
 {
     switch (c->kind) {
     case NEW: renew((size_t)c->first); break;
-    case LAY: take(liftlog_create(image, length, (uint32_t)c->first, (uint8_t)c->second)); break;
-    case DO: take(call(c)); show_view(c); break;
+    case LAY: create(c); break;
+    case DO: whole(c); show_view(c); break;
     case CUT: cut(c); break;
     case POKE:
         if (c->first < length)
