@@ -52,7 +52,7 @@ fn set_number(log: Log, setting: Setting) -> Log {
 }
 
 // A line's index is at most 63, so that the entry is there.
-fn set_slot(log: Log, i: usize, v: u8) -> Log {
+fn set_slot(log: Log, i: usize, slot: Slot) -> Log {
     if 64 <= i {
         return log;
     }
@@ -60,11 +60,11 @@ fn set_slot(log: Log, i: usize, v: u8) -> Log {
     let numbers = old.numbers;
     let starts = old.starts;
     let mut slots = old.slots;
-    slots[i] = Slot(v);
+    slots[i] = slot;
     spelling::log_of(numbers, slots, starts)
 }
 
-fn set_start(log: Log, i: usize, v: u32) -> Log {
+fn set_start(log: Log, i: usize, start: Lsn) -> Log {
     if 64 <= i {
         return log;
     }
@@ -72,7 +72,7 @@ fn set_start(log: Log, i: usize, v: u32) -> Log {
     let numbers = old.numbers;
     let slots = old.slots;
     let mut starts = old.starts;
-    starts[i] = Lsn(v);
+    starts[i] = start;
     spelling::log_of(numbers, slots, starts)
 }
 
@@ -80,8 +80,8 @@ fn set_start(log: Log, i: usize, v: u32) -> Log {
 pub fn set(log: Log, command: Command) -> Log {
     match command {
         Command::Set(setting) => set_number(log, setting),
-        Command::SetSlot(i, v) => set_slot(log, i as usize, v),
-        Command::SetStart(i, v) => set_start(log, i as usize, v),
+        Command::SetSlot(i, v) => set_slot(log, i as usize, Slot(v)),
+        Command::SetStart(i, v) => set_start(log, i as usize, Lsn(v)),
         _ => log,
     }
 }
