@@ -1,4 +1,7 @@
 // What a program works on: standard input, or the files that its arguments name, in their order.
+
+#![tactic(auto)]
+
 use libc::{STDIN_FILENO, STDOUT_FILENO};
 
 fn say(word: &[u8], name: &[u8]) {

@@ -2,6 +2,9 @@
 // slots of 64 bytes; `several`, four extents whose slots are in no order, with head inside the first and a torn record behind the
 // tail; `damaged`, two extents that do not join, since the second starts one LSN above where the first one's walk stops; `long`, one
 // byte more than 64 KiB with a fresh image at its front; and `missing`, which is not there.
+
+#![tactic(auto)]
+
 use libc::STDIN_FILENO;
 
 fn list_file(i: usize) {

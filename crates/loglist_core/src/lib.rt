@@ -1,4 +1,7 @@
 // The listing that the program loglist prints: an image that comes in is opened as open does it, and what it says goes to standard output.
+
+#![tactic(auto)]
+
 ghost use Rattle.std.specs.Prelude.{◌≡◌, false, ◌≤◌, ◌<◌, take};
 ghost use Rattle.slots.specs.Entries.{lsn_nos};
 ghost use Rattle.loglist_core.specs.Ends.{end_at};

@@ -2,6 +2,9 @@
 // standard input the mission, two trials, one withdrawn, the power cut while its bytes go, and the withdrawn one gone and the kept one
 // there; `life`, every step, and back through recovery; `refusals`, every refusal number that can be met; `cuts`, the power cut inside
 // each kind of store; and `bad`, lines that are none, and states that are malformed.
+
+#![tactic(auto)]
+
 use libc::STDIN_FILENO;
 
 fn drive_file(i: usize) {

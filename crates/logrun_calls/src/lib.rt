@@ -1,4 +1,7 @@
 // What the commands of a script do to a state and its image, and the state as numbers.
+
+#![tactic(auto)]
+
 mod calls;
 mod commands;
 mod settings;

@@ -8,7 +8,7 @@ use script::{Command, Setting};
 use steps::Log;
 
 // One of the state's numbers, by its place, and what it becomes.
-#[derive(Drop)]
+#[derive(Clone, Copy)]
 struct Change {
     place: usize,
     to: u64,

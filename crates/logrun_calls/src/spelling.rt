@@ -6,7 +6,7 @@ use steps::Log;
 use table::Mode;
 
 // Mode E S n head tail last version place pending rollslot rolllen, and the entries.
-#[derive(Drop)]
+#[derive(Clone, Copy)]
 pub struct Spelled {
     pub numbers: [u64; 12],
     pub slots: [Slot; 64],

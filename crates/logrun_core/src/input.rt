@@ -55,7 +55,7 @@ fn line(
 
 // What the lines so far left: the bench, how many bytes of input begin a line that is not whole yet, whether that line is too long
 // already, and whether more may come. All output is written.
-#[derive(Drop)]
+#[derive(Clone, Copy)]
 pub struct Going {
     pub bench: Bench,
     pub filled: usize,
@@ -64,7 +64,7 @@ pub struct Going {
 }
 
 // What the whole lines of some input leave, and where the rest of it begins.
-#[derive(Drop)]
+#[derive(Clone, Copy)]
 pub struct Passed {
     pub bench: Bench,
     pub from: usize,

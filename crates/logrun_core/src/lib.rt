@@ -2,6 +2,9 @@
 //
 // The state and the image are what the line before left; what a line says is the library script's, what it does is logrun_calls', and
 // how an answer is spelled is logrun_show's. Here is only what stands between them.
+
+#![tactic(auto)]
+
 mod input;
 mod lines;
 
@@ -9,7 +12,7 @@ pub use input::drive;
 use steps::Log;
 
 // The state, and how many bytes the image has: the first so many of the space that goes with it.
-#[derive(Drop)]
+#[derive(Clone, Copy)]
 pub struct Bench {
     pub log: Log,
     pub len: usize,

@@ -7,7 +7,7 @@ use script::{Call, Command};
 use steps::Log;
 
 // What a line leaves: the state and the image's length, and where the collected output ends.
-#[derive(Drop)]
+#[derive(Clone, Copy)]
 pub struct Turn {
     pub bench: Bench,
     pub at: usize,

@@ -1,4 +1,7 @@
 // The answers of logrun: output is collected, and the state and the image are spelled as each answer ends.
+
+#![tactic(auto)]
+
 mod output;
 mod show;
 

@@ -1,5 +1,8 @@
 // Document 01's samples at E = 64, S = 2, run on the proved calls. A line is the sample's number, what was done, and what came out
 // of it: a call's number, then one field of the state that it left.
+
+#![tactic(auto)]
+
 mod bytes;
 mod print;
 mod runs;

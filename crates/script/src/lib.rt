@@ -1,4 +1,7 @@
 // The script language of logrun: what a line says.
+
+#![tactic(auto)]
+
 mod calls;
 mod lines;
 mod pairs;
@@ -7,7 +10,7 @@ mod settings;
 pub use lines::{parse, payload};
 
 // A call that can be cut, with its number; the payload of Append and Write is the line's last word.
-#[derive(Drop)]
+#[derive(Clone, Copy)]
 pub enum Call {
     Open,
     Wipe,
@@ -26,14 +29,14 @@ pub enum Call {
 }
 
 // What words ask for, if it is such a call.
-#[derive(Drop)]
+#[derive(Clone, Copy)]
 pub enum Asked {
     For(Call),
     Nothing,
 }
 
 // A field of the state with its new value. A mode is its number, 0 to 9.
-#[derive(Drop)]
+#[derive(Clone, Copy)]
 pub enum Setting {
     Mode(u8),
     E(u32),
@@ -50,7 +53,7 @@ pub enum Setting {
 }
 
 // What a line says.
-#[derive(Drop)]
+#[derive(Clone, Copy)]
 pub enum Command {
     Bad,
     New(u32),

@@ -1,4 +1,7 @@
 // Text of ASCII bytes: a line's words, decimal numbers and hexadecimal payloads, read and printed; and the CRC-32 of bytes.
+
+#![tactic(auto)]
+
 mod crc;
 mod decimal;
 mod hex;
@@ -10,7 +13,7 @@ pub use hex::{is_payload, put_hex, unhex};
 pub use words::{index, same, word, word_count};
 
 // What a word says as a number.
-#[derive(Drop)]
+#[derive(Clone, Copy)]
 pub enum Parsed {
     Number(u64),
     Bad,
