@@ -18,6 +18,7 @@ found_shows f = rw f.opens f.records
 
 module _ (r : Record) where
   among_left : (qs ps : List Record) → Among r qs → Among r (qs ++ ps)
+  among_left [] ps m = elim m [ ]
   among_left (q ∷ qs) ps (inl e) = inl e
   among_left (q ∷ qs) ps (inr m) = inr (among_left qs ps m)
 
@@ -31,6 +32,7 @@ module _ (r : Record) where
   -- it has its LSN in the range
   pub among_range : (a : ℕ) (ps : List (List ℕ)) → Among r (numbered a ps) → (a ≤ r.lsn) × (r.lsn < a + length ps)
   unfolding numbered
+  among_range a [] m = elim m [ ]
   among_range a (p ∷ ps) (inl e) = let q : r.lsn ≡ a = ap (λ (x : Record). x.lsn) e in omega arith
   among_range a (p ∷ ps) (inr m) = let q = among_range (a + 1) ps m in omega (arith, q.0, q.1)
 
@@ -38,6 +40,7 @@ module _ (r : Record) where
   pub among_drop : (n a : ℕ) (ps : List (List ℕ)) → a + n ≤ r.lsn → Among r (numbered a ps) → Among r (numbered (a + n) (drop n ps))
   unfolding numbered
   among_drop zero a ps h m = rw add-zero m
+  among_drop (suc n) a [] h m = elim m [ ]
   among_drop (suc n) a (p ∷ ps) h (inl e) = absurd (let q : r.lsn ≡ a = ap (λ (x : Record). x.lsn) e in omega arith)
   among_drop (suc n) a (p ∷ ps) h (inr m) =
       let s : a + 1 + n ≡ a + suc n = omega arith in
@@ -46,6 +49,7 @@ module _ (r : Record) where
   pub among_take : (n a : ℕ) (ps : List (List ℕ)) → r.lsn < a + n → Among r (numbered a ps) → Among r (numbered a (take n ps))
   unfolding numbered
   among_take zero a ps h m = absurd (omega (arith, (among_range a ps m).0))
+  among_take (suc n) a [] h m = elim m [ ]
   among_take (suc n) a (p ∷ ps) h (inl e) = inl e
   among_take (suc n) a (p ∷ ps) h (inr m) = inr (among_take n (a + 1) ps (omega arith) m)
 
