@@ -3,15 +3,13 @@ ghost use Rattle.liftlog.specs.Told.{CreateTold, OpenTold};
 
 use mirror::Answer;
 
-#[unsafe(no_mangle)]
-pub extern "C" fn liftlog_create(image: &mut [u8], e: u32, s: u8) -> Answer
+pub fn liftlog_create(image: &mut [u8], e: u32, s: u8) -> Answer
     ensures { CreateTold e s image.old result image.new }
 {
     mirror::mirrored(create::create(image, e, s), named::nothing())
 }
 
-#[unsafe(no_mangle)]
-pub extern "C" fn liftlog_open(image: &[u8]) -> Answer
+pub fn liftlog_open(image: &[u8]) -> Answer
     ensures { OpenTold image.now result }
 {
     mirror::mirrored(recovery::open(image), named::nothing())

@@ -6,8 +6,7 @@ ghost use Rattle.liftlog.specs.Told.{Told, HeadFinishTold};
 use mirror::{Answer, State};
 use record::Lsn;
 
-#[unsafe(no_mangle)]
-pub extern "C" fn liftlog_wipe(state: State, image: &mut [u8]) -> Answer
+pub fn liftlog_wipe(state: State, image: &mut [u8]) -> Answer
     ensures { Told wipes state image.old result image.new }
 {
     if mirror::UNKNOWN <= state.mode {
@@ -18,8 +17,7 @@ pub extern "C" fn liftlog_wipe(state: State, image: &mut [u8]) -> Answer
     mirror::mirrored(a, named::of_rest(log, a.number))
 }
 
-#[unsafe(no_mangle)]
-pub extern "C" fn liftlog_mark(state: State, image: &mut [u8]) -> Answer
+pub fn liftlog_mark(state: State, image: &mut [u8]) -> Answer
     ensures { Told marks state image.old result image.new }
 {
     if mirror::UNKNOWN <= state.mode {
@@ -30,8 +28,7 @@ pub extern "C" fn liftlog_mark(state: State, image: &mut [u8]) -> Answer
     mirror::mirrored(a, named::of_metadata(a.number))
 }
 
-#[unsafe(no_mangle)]
-pub extern "C" fn liftlog_append(state: State, image: &mut [u8], payload: &[u8]) -> Answer
+pub fn liftlog_append(state: State, image: &mut [u8], payload: &[u8]) -> Answer
     ensures { Told (appends payload.now) state image.old result image.new }
 {
     if mirror::UNKNOWN <= state.mode {
@@ -42,8 +39,7 @@ pub extern "C" fn liftlog_append(state: State, image: &mut [u8], payload: &[u8])
     mirror::mirrored(a, named::of_append(log, payload, a.number))
 }
 
-#[unsafe(no_mangle)]
-pub extern "C" fn liftlog_roll_begin(state: State, image: &mut [u8], p: usize) -> Answer
+pub fn liftlog_roll_begin(state: State, image: &mut [u8], p: usize) -> Answer
     ensures { Told (roll_begins p) state image.old result image.new }
 {
     if mirror::UNKNOWN <= state.mode {
@@ -54,8 +50,7 @@ pub extern "C" fn liftlog_roll_begin(state: State, image: &mut [u8], p: usize) -
     mirror::mirrored(a, named::of_roll_begin(log.e, a.log.roll_slot, a.number))
 }
 
-#[unsafe(no_mangle)]
-pub extern "C" fn liftlog_roll_write(state: State, image: &mut [u8], payload: &[u8]) -> Answer
+pub fn liftlog_roll_write(state: State, image: &mut [u8], payload: &[u8]) -> Answer
     ensures { Told (roll_writes payload.now) state image.old result image.new }
 {
     if mirror::UNKNOWN <= state.mode {
@@ -69,8 +64,7 @@ pub extern "C" fn liftlog_roll_write(state: State, image: &mut [u8], payload: &[
     )
 }
 
-#[unsafe(no_mangle)]
-pub extern "C" fn liftlog_roll_list(state: State, image: &mut [u8]) -> Answer
+pub fn liftlog_roll_list(state: State, image: &mut [u8]) -> Answer
     ensures { Told roll_lists state image.old result image.new }
 {
     if mirror::UNKNOWN <= state.mode {
@@ -81,8 +75,7 @@ pub extern "C" fn liftlog_roll_list(state: State, image: &mut [u8]) -> Answer
     mirror::mirrored(a, named::of_metadata(a.number))
 }
 
-#[unsafe(no_mangle)]
-pub extern "C" fn liftlog_head_start(state: State, image: &mut [u8], h: Lsn) -> Answer
+pub fn liftlog_head_start(state: State, image: &mut [u8], h: Lsn) -> Answer
     ensures { Told (head_starts h.0) state image.old result image.new }
 {
     if mirror::UNKNOWN <= state.mode {
@@ -94,8 +87,7 @@ pub extern "C" fn liftlog_head_start(state: State, image: &mut [u8], h: Lsn) -> 
 }
 
 // No store: the image is only lent to be measured.
-#[unsafe(no_mangle)]
-pub extern "C" fn liftlog_head_finish(state: State, image: &[u8]) -> Answer
+pub fn liftlog_head_finish(state: State, image: &[u8]) -> Answer
     ensures { HeadFinishTold state image.now result }
 {
     if mirror::UNKNOWN <= state.mode {
@@ -104,8 +96,7 @@ pub extern "C" fn liftlog_head_finish(state: State, image: &[u8]) -> Answer
     mirror::mirrored(head::head_finish(state.log(), image), named::nothing())
 }
 
-#[unsafe(no_mangle)]
-pub extern "C" fn liftlog_tail_start(state: State, image: &mut [u8], t: Lsn) -> Answer
+pub fn liftlog_tail_start(state: State, image: &mut [u8], t: Lsn) -> Answer
     ensures { Told (tail_starts t.0) state image.old result image.new }
 {
     if mirror::UNKNOWN <= state.mode {
@@ -116,8 +107,7 @@ pub extern "C" fn liftlog_tail_start(state: State, image: &mut [u8], t: Lsn) -> 
     mirror::mirrored(a, named::of_metadata(a.number))
 }
 
-#[unsafe(no_mangle)]
-pub extern "C" fn liftlog_tail_finish(state: State, image: &mut [u8]) -> Answer
+pub fn liftlog_tail_finish(state: State, image: &mut [u8]) -> Answer
     ensures { Told tail_finishes state image.old result image.new }
 {
     if mirror::UNKNOWN <= state.mode {
@@ -128,8 +118,7 @@ pub extern "C" fn liftlog_tail_finish(state: State, image: &mut [u8]) -> Answer
     mirror::mirrored(a, named::of_rest(log, a.number))
 }
 
-#[unsafe(no_mangle)]
-pub extern "C" fn liftlog_close(state: State, image: &mut [u8]) -> Answer
+pub fn liftlog_close(state: State, image: &mut [u8]) -> Answer
     ensures { Told closes state image.old result image.new }
 {
     if mirror::UNKNOWN <= state.mode {

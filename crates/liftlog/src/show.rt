@@ -5,8 +5,7 @@ use crate::{Reading, Report};
 use mirror::State;
 use record::Lsn;
 
-#[unsafe(no_mangle)]
-pub extern "C" fn liftlog_read(state: State, image: &[u8], lsn: Lsn) -> Reading
+pub fn liftlog_read(state: State, image: &[u8], lsn: Lsn) -> Reading
     ensures { ReadTold state image.now lsn.0 result }
 {
     if mirror::UNKNOWN <= state.mode {
@@ -25,8 +24,7 @@ pub extern "C" fn liftlog_read(state: State, image: &[u8], lsn: Lsn) -> Reading
     }
 }
 
-#[unsafe(no_mangle)]
-pub extern "C" fn liftlog_counts(state: State) -> Report
+pub fn liftlog_counts(state: State) -> Report
     ensures { CountsTold state result }
 {
     if mirror::UNKNOWN <= state.mode {
