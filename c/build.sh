@@ -1,17 +1,11 @@
-# Sourced in the repository's root: compilers for x86-64, and how C over the proved library is built. Products go to target/c.
+# Sourced in the repository's root: the compilers, and how C over the proved library is built. Products go to target/c.
 . tools/kit.sh
 out=target/c
 archive=$out/libliftlog.a
-cc_x86=gcc
-cxx_x86=g++
+cc=gcc
+cxx=g++
 cc_packages='gcc libc6-dev'
 cxx_packages='g++'
-if [ "$(uname -m)" != x86_64 ]; then
-    cc_x86=x86_64-linux-gnu-gcc
-    cxx_x86=x86_64-linux-gnu-g++
-    cc_packages='gcc-x86-64-linux-gnu libc6-dev-amd64-cross'
-    cxx_packages='g++-x86-64-linux-gnu'
-fi
 warnings='-Wall -Wextra -Werror'
 mkdir -p "$out"
 
@@ -40,8 +34,8 @@ is_newer() {
 # compile PROGRAM FILE..: C over the header and the lists, linked statically with the archive; done again when a file of c/ is newer.
 compile() {
     ! is_newer "$1" c "$archive" || return 0
-    need "$cc_packages" "$cc_x86"
-    "$cc_x86" -std=c11 -O2 $warnings -Ic/include -Ic -static -o "$@" "$archive"
+    need "$cc_packages" "$cc"
+    "$cc" -std=c11 -O2 $warnings -Ic/include -Ic -static -o "$@" "$archive"
 }
 
 # The example programs: box, and live, which prints what is in a log.

@@ -1,9 +1,7 @@
-# Sourced: where the kit's toolchain is, and how programs for x86-64 are run on this machine.
-kit=${RATTLE_HOME:-$(cd "$(dirname "$(rt doc)")/.." && pwd -P)}
-tools=$kit/on/$(uname -m)/toolchain
-emulator=$tools/bin/qemu-x86_64
-[ -x "$emulator" ] || emulator=''       # empty where the processor runs x86-64 itself
+# Sourced: how a program of the repository is proved and built by the kit.
 
-# A program that is linked statically, and one that the kit has linked.
-run_x86() { ${emulator:+"$emulator"} "$@"; }
-run_proved() { run_x86 "$tools/lib/ld-linux-x86-64.so.2" --library-path "$tools/lib" "$@"; }
+# built NAME: proves and links crates/NAME, in the repository's root; the program is crates/NAME/out/NAME. rt run starts it too, here on no
+# input: what it answers is not asked, only that it was built.
+built() {
+    (cd "crates/$1" && rt run) </dev/null >&2 || [ -e "crates/$1/out/$1.stamp" ]
+}

@@ -65,8 +65,8 @@ class Expected:
         return list(zip(self.starts, ends))
 
 
-# Run as ./run does it, without proving it again.
-LOGLIST = ["sh", "-c", ". tools/kit.sh && run_proved target/bin/loglist"]
+# As ./run has built it, without proving it again.
+LOGLIST = ["crates/loglist/out/loglist"]
 
 
 class Failure(Exception):
@@ -87,9 +87,8 @@ def output(command, image):
 
 class Test:
     def __init__(self, arguments, folder):
-        runner = [arguments.emulator] if arguments.emulator else []
-        self.box = [*runner, "target/c/box"]
-        self.live = [*runner, "target/c/live"]
+        self.box = ["target/c/box"]
+        self.live = ["target/c/live"]
         self.random = random.Random(arguments.seed)
         self.file = folder / "log"
         self.sent = folder / "sent"
