@@ -5,31 +5,32 @@
 
 #![tactic(auto)]
 
-use libc::STDIN_FILENO;
+use std::io;
+use std::rt::{Env, Files};
 
-fn list_file(i: usize) {
-    let fd = inputs::open(i);
-    if fd < 0 {
-        return;
-    }
-    loglist_core::list_input(fd);
-    inputs::close(fd);
+fn list_file<R: Env + Files + Input + Print>(rt: &R, i: usize) -> io::Result<()> {
+    let Some(mut source) = inputs::open(rt, i)? else {
+        return Ok(());
+    };
+    loglist_core::list_input(&mut source, &mut io::writer(rt))?;
+    inputs::close(source);
+    Ok(())
 }
 
 // The arguments but the first, which is the program's own name.
-fn list_files(n: usize) {
-    let mut i = 1;
-    while i < n {
-        list_file(i);
-        i += 1;
+fn list_files<R: Env + Files + Input + Print>(rt: &R) -> io::Result<()> {
+    for i in 1..usize::MAX {
+        if !inputs::is_there(rt, i) {
+            break;
+        }
+        list_file(rt, i)?;
     }
+    Ok(())
 }
 
-fn main() {
-    let n = os::arg_count();
-    if n < 2 {
-        loglist_core::list_input(STDIN_FILENO);
-        return;
+fn main(rt: HostRuntime) -> io::Result<()> {
+    if inputs::is_there(&rt, 1) {
+        return list_files(&rt);
     }
-    list_files(n);
+    loglist_core::list_input(&mut rt.reader(), &mut io::writer(&rt))
 }

@@ -5,31 +5,32 @@
 
 #![tactic(auto)]
 
-use libc::STDIN_FILENO;
+use std::io;
+use std::rt::{Env, Files};
 
-fn drive_file(i: usize) {
-    let fd = inputs::open(i);
-    if fd < 0 {
-        return;
-    }
-    logrun_core::drive(fd);
-    inputs::close(fd);
+fn drive_file<R: Env + Files + Input + Print>(rt: &R, i: usize) -> io::Result<()> {
+    let Some(mut source) = inputs::open(rt, i)? else {
+        return Ok(());
+    };
+    logrun_core::drive(&mut source, &mut io::writer(rt))?;
+    inputs::close(source);
+    Ok(())
 }
 
 // The arguments but the first, which is the program's own name.
-fn drive_files(n: usize) {
-    let mut i = 1;
-    while i < n {
-        drive_file(i);
-        i += 1;
+fn drive_files<R: Env + Files + Input + Print>(rt: &R) -> io::Result<()> {
+    for i in 1..usize::MAX {
+        if !inputs::is_there(rt, i) {
+            break;
+        }
+        drive_file(rt, i)?;
     }
+    Ok(())
 }
 
-fn main() {
-    let n = os::arg_count();
-    if n < 2 {
-        logrun_core::drive(STDIN_FILENO);
-        return;
+fn main(rt: HostRuntime) -> io::Result<()> {
+    if inputs::is_there(&rt, 1) {
+        return drive_files(&rt);
     }
-    drive_files(n);
+    logrun_core::drive(&mut rt.reader(), &mut io::writer(&rt))
 }

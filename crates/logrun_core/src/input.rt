@@ -1,8 +1,10 @@
 // The input, in pieces: the lines that are there are answered before more is waited for.
-ghost use Rattle.std.specs.Prelude.{◌≡◌, ◌+◌, ◌≤◌, ◌<◌, length};
+ghost use Rattle.std.specs.Prelude.{◌≡◌, ◌+◌, ◌≤◌, ◌<◌, length, IfOk};
 
 use crate::lines::Turn;
 use crate::{Bench, lines};
+use std::io;
+use std::io::{Read, Write};
 
 // The longest line, its end not counted.
 const LONGEST: usize = 4096;
@@ -33,24 +35,25 @@ fn behind(bytes: &[u8], end: usize) -> usize
 }
 
 // A line of any length: one that is too long says nothing.
-fn line(
+fn line<W: Write>(
+    to: &mut W,
     bench: Bench,
     space: &mut [u8],
     out: &mut [u8],
     at: usize,
     bytes: &[u8],
     is_long: bool,
-) -> Turn
+) -> io::Result<Turn>
     requires { at ≤ length out.old }
-    ensures { result.at ≤ length out.new }
+    ensures { IfOk result (λ turn. turn.at ≤ length out.new) }
 {
     if is_long {
-        return lines::bad(bench, out, at);
+        return lines::bad(to, bench, out, at);
     }
     if LONGEST < bytes.len() {
-        return lines::bad(bench, out, at);
+        return lines::bad(to, bench, out, at);
     }
-    lines::answer(bench, space, out, at, bytes)
+    lines::answer(to, bench, space, out, at, bytes)
 }
 
 // What the lines so far left: the bench, how many bytes of input begin a line that is not whole yet, whether that line is too long
@@ -71,8 +74,15 @@ pub struct Passed {
     pub is_long: bool,
 }
 
-fn pass_lines(bench: Bench, space: &mut [u8], out: &mut [u8], bytes: &[u8], is_long: bool) -> Passed
-    ensures { result.from ≤ length bytes.now }
+fn pass_lines<W: Write>(
+    to: &mut W,
+    bench: Bench,
+    space: &mut [u8],
+    out: &mut [u8],
+    bytes: &[u8],
+    is_long: bool,
+) -> io::Result<Passed>
+    ensures { IfOk result (λ passed. passed.from ≤ length bytes.now) }
 {
     let mut now_bench = bench;
     let mut end = 0;
@@ -80,19 +90,19 @@ fn pass_lines(bench: Bench, space: &mut [u8], out: &mut [u8], bytes: &[u8], is_l
     let mut too_long = is_long;
     let mut stop = line_end(bytes, 0);
     while stop < bytes.len() {
-        let turn = line(now_bench, space, out, end, &bytes[from..stop], too_long);
+        let turn = line(to, now_bench, space, out, end, &bytes[from..stop], too_long)?;
         now_bench = turn.bench;
         end = turn.at;
         too_long = false;
         from = behind(bytes, stop);
         stop = line_end(bytes, from);
     }
-    logrun_show::flush(out, end);
-    Passed {
+    logrun_show::flush(to, out, end)?;
+    Ok(Passed {
         bench: now_bench,
         from,
         is_long: too_long,
-    }
+    })
 }
 
 // The bytes from a place up to another go to the front.
@@ -142,79 +152,90 @@ fn waits(bench: Bench, filled: usize, is_long: bool) -> Going
 }
 
 // The last line may lack its end.
-fn ended(bench: Bench, space: &mut [u8], out: &mut [u8], bytes: &[u8], is_long: bool) -> Going
-    ensures { result.filled ≡ 0 }
+fn ended<W: Write>(
+    to: &mut W,
+    bench: Bench,
+    space: &mut [u8],
+    out: &mut [u8],
+    bytes: &[u8],
+    is_long: bool,
+) -> io::Result<Going>
+    ensures { IfOk result (λ going. going.filled ≡ 0) }
 {
-    if bytes.len() == 0 {
-        if is_long {} else {
-            return over(bench);
-        }
+    if bytes.len() == 0 && !is_long {
+        return Ok(over(bench));
     }
-    let turn = line(bench, space, out, 0, bytes, is_long);
+    let turn = line(to, bench, space, out, 0, bytes, is_long)?;
     let next = turn.bench;
-    logrun_show::flush(out, turn.at);
-    over(next)
+    logrun_show::flush(to, out, turn.at)?;
+    Ok(over(next))
 }
 
 // What has come in is answered.
-fn took(
+fn took<W: Write>(
+    to: &mut W,
     bench: Bench,
     space: &mut [u8],
     out: &mut [u8],
     input: &mut [u8],
     filled: usize,
     is_long: bool,
-) -> Going
+) -> io::Result<Going>
     requires { filled ≤ length input.old }
-    ensures { result.filled ≤ length input.new }
+    ensures { IfOk result (λ going. going.filled ≤ length input.new) }
 {
-    let done = pass_lines(bench, space, out, &input[..filled], is_long);
+    let done = pass_lines(to, bench, space, out, &input[..filled], is_long)?;
     let next = done.bench;
     let rest = to_front(input, done.from, filled);
-    waits(next, rest, done.is_long)
+    Ok(waits(next, rest, done.is_long))
 }
 
 // Where the input ends behind one more read.
-fn read_more(fd: i32, input: &mut [u8], filled: usize) -> usize
+fn read_more<R: Read>(from: &mut R, input: &mut [u8], filled: usize) -> io::Result<usize>
     requires { filled ≤ length input.old }
-    ensures { result ≤ length input.new }
+    ensures { IfOk result (λ end. (filled ≤ end) × (end ≤ length input.new)) }
 {
-    let free = &mut input[filled..];
-    let got = libc::read(fd, free);
-    filled + io::count(got, free)
+    let got = from.read(&mut input[filled..])?;
+    Ok(filled + got)
 }
 
 // One read, and the answers to the lines that it ends.
-fn take_turn(fd: i32, going: Going, space: &mut [u8], out: &mut [u8], input: &mut [u8]) -> Going
+fn take_turn<R: Read, W: Write>(
+    from: &mut R,
+    to: &mut W,
+    going: Going,
+    space: &mut [u8],
+    out: &mut [u8],
+    input: &mut [u8],
+) -> io::Result<Going>
     requires { going.filled ≤ length input.old }
-    ensures { result.filled ≤ length input.new }
+    ensures { IfOk result (λ next. next.filled ≤ length input.new) }
 {
     let before = going.bench;
     let filled = going.filled;
-    let end = read_more(fd, input, filled);
+    let end = read_more(from, input, filled)?;
     if end == filled {
-        return ended(before, space, out, &input[..filled], going.is_long);
+        return ended(to, before, space, out, &input[..filled], going.is_long);
     }
-    took(before, space, out, input, end, going.is_long)
+    took(to, before, space, out, input, end, going.is_long)
 }
 
-// Drives a new log by the lines that come in at a descriptor. A proved loop has to end, and nothing says that the input does: so the
-// turns are counted down from a number that no run uses up.
-pub fn drive(fd: i32) {
-    let mut space = io::large_buffer();
-    let mut out = io::large_buffer();
+// Drives a new log by the lines that a reader gives, and writes the answers. A proved loop has to end, and nothing says that the input
+// does: so the turns are counted up to a number that no run reaches.
+pub fn drive<R: Read, W: Write>(from: &mut R, to: &mut W) -> io::Result<()> {
+    let mut space = [0u8; 65536];
+    let mut out = [0u8; 65536];
     let mut input = [0u8; 8192];
     let bench = Bench {
         log: logrun_calls::zero_log(),
         len: 0,
     };
     let mut going = waits(bench, 0, false);
-    let mut turns = u64::MAX;
-    while 0 < turns {
-        if going.is_more {} else {
-            return;
+    for _ in 0..u64::MAX {
+        if !going.is_more {
+            break;
         }
-        going = take_turn(fd, going, &mut space, &mut out, &mut input);
-        turns -= 1;
+        going = take_turn(from, to, going, &mut space, &mut out, &mut input)?;
     }
+    Ok(())
 }

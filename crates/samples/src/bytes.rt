@@ -1,43 +1,46 @@
 // Samples 1, 2, 11 and 12: the bytes that create and append leave in an image, a clean mark that is none, and the listing of a fresh image.
 use crate::{print, runs};
+use std::io;
 use steps::Log;
 
 // The metadata that create stores at E = 64, S = 2.
-pub fn metadata() {
+pub fn metadata(rt: &impl Print) -> io::Result<()> {
     let mut image = [0u8; 212];
     Log::create(&mut image, 64, 2);
-    print::bytes(b"1 metadata", &image[0..84]);
+    print::bytes(rt, "1 metadata", &image[0..84])
 }
 
 // The record that the first append stores: in slot 0, behind the metadata and the extent's header.
-pub fn record() {
+pub fn record(rt: &impl Print) -> io::Result<()> {
     let mut image = [0u8; 212];
     let log = runs::running(&mut image);
     log.append(&mut image, b"AB");
-    print::bytes(b"2 record", &image[89..100]);
+    print::bytes(rt, "2 record", &image[89..100])
 }
 
 // The clean mark stands at byte 18.
-pub fn clean_two() {
+pub fn clean_two(rt: &impl Print) -> io::Result<()> {
     let mut image = [0u8; 212];
     let made = Log::create(&mut image, 64, 2);
     image[18] = 2;
     let found = Log::open(&image);
     print::two(
-        b"11 create, then open of clean 2",
+        rt,
+        "11 create, then open of clean 2",
         made.number as u64,
         found.number as u64,
-    );
+    )
 }
 
 // What loglist prints of a fresh image.
-pub fn listed() {
+pub fn listed(rt: &impl Print) -> io::Result<()> {
     let mut image = [0u8; 212];
     let made = Log::create(&mut image, 64, 2);
     print::two(
-        b"12 create, head; then its listing",
+        rt,
+        "12 create, head; then its listing",
         made.number as u64,
         made.log.0.head.0 as u64,
-    );
-    loglist_core::print_image(&image);
+    )?;
+    loglist_core::print_image(&mut io::writer(rt), &image)
 }

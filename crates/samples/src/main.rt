@@ -7,17 +7,19 @@ mod bytes;
 mod print;
 mod runs;
 
-fn main() {
-    bytes::metadata();
-    bytes::record();
-    runs::longest();
-    runs::would_fit();
-    runs::full();
-    runs::torn();
-    runs::withdrawn();
-    runs::head();
-    runs::tail();
-    runs::last_lsn();
-    bytes::clean_two();
-    bytes::listed();
+use std::io;
+
+fn main(rt: HostRuntime) -> io::Result<()> {
+    bytes::metadata(&rt)?;
+    bytes::record(&rt)?;
+    runs::longest(&rt)?;
+    runs::would_fit(&rt)?;
+    runs::full(&rt)?;
+    runs::torn(&rt)?;
+    runs::withdrawn(&rt)?;
+    runs::head(&rt)?;
+    runs::tail(&rt)?;
+    runs::last_lsn(&rt)?;
+    bytes::clean_two(&rt)?;
+    bytes::listed(&rt)
 }

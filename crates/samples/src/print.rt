@@ -1,33 +1,14 @@
 // One line for a thing: its name, and what it is in decimal or in hex.
-use libc::STDOUT_FILENO;
+use std::io;
 
-fn say(word: &[u8]) {
-    io::write_all(STDOUT_FILENO, word);
-}
-
-fn field(number: u64) {
-    say(b" ");
-    io::print_decimal(STDOUT_FILENO, number);
-}
-
-fn wide(x: u8) -> u64 {
-    x as u64
-}
-
-pub fn bytes(name: &[u8], bytes: &[u8]) {
-    say(name);
-    let mut i = 0;
-    while i < bytes.len() {
-        say(b" ");
-        io::print_hex(STDOUT_FILENO, wide(bytes[i]), 2);
-        i += 1;
+pub fn bytes(rt: &impl Print, name: &str, bytes: &[u8]) -> io::Result<()> {
+    print!(rt; "{name}")?;
+    for byte in bytes {
+        print!(rt; " {byte:02x}")?;
     }
-    say(b"\n");
+    println!(rt)
 }
 
-pub fn two(name: &[u8], a: u64, b: u64) {
-    say(name);
-    field(a);
-    field(b);
-    say(b"\n");
+pub fn two(rt: &impl Print, name: &str, a: u64, b: u64) -> io::Result<()> {
+    println!(rt; "{name} {a} {b}")
 }

@@ -2,6 +2,7 @@
 use crate::print;
 use record::Lsn;
 use state::State;
+use std::io;
 use steps::{Answer, Log};
 
 // A created log that runs: opened, wiped, marked.
@@ -16,92 +17,99 @@ pub fn running(image: &mut [u8]) -> Log {
 }
 
 // A call's number, and one field of the state that it left.
-fn show_place(name: &[u8], a: Answer) {
-    print::two(name, a.number as u64, a.log.0.place as u64);
+fn show_place(rt: &impl Print, name: &str, a: Answer) -> io::Result<()> {
+    print::two(rt, name, a.number as u64, a.log.0.place as u64)
 }
 
-fn show_head(name: &[u8], a: Answer) {
-    print::two(name, a.number as u64, a.log.0.head.0 as u64);
+fn show_head(rt: &impl Print, name: &str, a: Answer) -> io::Result<()> {
+    print::two(rt, name, a.number as u64, a.log.0.head.0 as u64)
 }
 
-fn show_tail(name: &[u8], a: Answer) {
-    print::two(name, a.number as u64, a.log.0.tail.0 as u64);
+fn show_tail(rt: &impl Print, name: &str, a: Answer) -> io::Result<()> {
+    print::two(rt, name, a.number as u64, a.log.0.tail.0 as u64)
 }
 
-fn show_version(name: &[u8], a: Answer) {
-    print::two(name, a.number as u64, a.log.0.version.0 as u64);
+fn show_version(rt: &impl Print, name: &str, a: Answer) -> io::Result<()> {
+    print::two(rt, name, a.number as u64, a.log.0.version.0 as u64)
 }
 
-fn show_roll_slot(name: &[u8], a: Answer) {
+fn show_roll_slot(rt: &impl Print, name: &str, a: Answer) -> io::Result<()> {
     let slot = a.log.0.roll_slot;
-    print::two(name, a.number as u64, slot.0 as u64);
+    print::two(rt, name, a.number as u64, slot.0 as u64)
 }
 
 // M is 50: 50 bytes fill an empty extent, 51 are too long.
-pub fn longest() {
+pub fn longest(rt: &impl Print) -> io::Result<()> {
     let mut image = [0u8; 212];
     let log = running(&mut image);
     show_place(
-        b"3 append of 51 bytes, write place",
+        rt,
+        "3 append of 51 bytes, write place",
         log.append(&mut image, &[0u8; 51]),
-    );
+    )?;
     show_place(
-        b"3 append of 50 bytes, write place",
+        rt,
+        "3 append of 50 bytes, write place",
         log.append(&mut image, &[0u8; 50]),
-    );
+    )
 }
 
 // Write place 55 behind a payload of 41: an empty one fits.
-pub fn would_fit() {
+pub fn would_fit(rt: &impl Print) -> io::Result<()> {
     let mut image = [0u8; 212];
     let log = running(&mut image).append(&mut image, &[0u8; 41]).log;
     show_place(
-        b"4 roll begin of 0 bytes, write place",
+        rt,
+        "4 roll begin of 0 bytes, write place",
         log.roll_begin(&mut image, 0),
-    );
+    )?;
     show_place(
-        b"4 append of 0 bytes, write place",
+        rt,
+        "4 append of 0 bytes, write place",
         log.append(&mut image, b""),
-    );
+    )
 }
 
 // Write place 56: it does not fit.
-pub fn full() {
+pub fn full(rt: &impl Print) -> io::Result<()> {
     let mut image = [0u8; 212];
     let log = running(&mut image).append(&mut image, &[0u8; 42]).log;
     show_place(
-        b"5 append of 0 bytes, write place",
+        rt,
+        "5 append of 0 bytes, write place",
         log.append(&mut image, b""),
-    );
+    )?;
     show_roll_slot(
-        b"5 roll begin of 0 bytes, slot",
+        rt,
+        "5 roll begin of 0 bytes, slot",
         log.roll_begin(&mut image, 0),
-    );
+    )
 }
 
 // Sample 2 cut after k bytes, then open.
-fn torn_after(name: &[u8], k: usize) {
+fn torn_after(rt: &impl Print, name: &str, k: usize) -> io::Result<()> {
     let mut image = [0u8; 212];
     let log = running(&mut image);
     log.append_cut(&mut image, b"AB", k);
-    show_tail(name, Log::open(&image));
+    show_tail(rt, name, Log::open(&image))
 }
 
-pub fn torn() {
-    torn_after(b"6 sample 2 cut after 10 bytes, open, tail", 10);
-    torn_after(b"6 sample 2 cut after 11 bytes, open, tail", 11);
+pub fn torn(rt: &impl Print) -> io::Result<()> {
+    torn_after(rt, "6 sample 2 cut after 10 bytes, open, tail", 10)?;
+    torn_after(rt, "6 sample 2 cut after 11 bytes, open, tail", 11)
 }
 
 // The withdrawn record is not found again, although its bytes are still there.
-pub fn withdrawn() {
+pub fn withdrawn(rt: &impl Print) -> io::Result<()> {
     let mut image = [0u8; 212];
     let log = running(&mut image).append(&mut image, b"AB").log;
     show_tail(
-        b"7 after sample 2, tail start 1, tail",
+        rt,
+        "7 after sample 2, tail start 1, tail",
         log.tail_start(&mut image, Lsn(1)),
-    );
-    show_tail(b"7 power cut, open, tail", Log::open(&image));
-    show_version(b"7 power cut, open, version", Log::open(&image));
+    )?;
+    show_tail(rt, "7 power cut, open, tail", Log::open(&image))?;
+    show_version(rt, "7 power cut, open, version", Log::open(&image))
 }
 
 // Head 1, tail 3.
@@ -110,32 +118,40 @@ fn two_records(image: &mut [u8]) -> Log {
     log.append(image, b"CD").log
 }
 
-fn head_to(name: &[u8], h: u32) {
+fn head_to(rt: &impl Print, name: &str, h: u32) -> io::Result<()> {
     let mut image = [0u8; 212];
-    show_head(name, two_records(&mut image).head_start(&mut image, Lsn(h)));
+    show_head(
+        rt,
+        name,
+        two_records(&mut image).head_start(&mut image, Lsn(h)),
+    )
 }
 
-pub fn head() {
-    head_to(b"8 head start 1, head", 1);
-    head_to(b"8 head start 2, head", 2);
-    head_to(b"8 head start 3, head", 3);
-    head_to(b"8 head start 4, head", 4);
+pub fn head(rt: &impl Print) -> io::Result<()> {
+    head_to(rt, "8 head start 1, head", 1)?;
+    head_to(rt, "8 head start 2, head", 2)?;
+    head_to(rt, "8 head start 3, head", 3)?;
+    head_to(rt, "8 head start 4, head", 4)
 }
 
-fn tail_to(name: &[u8], t: u32) {
+fn tail_to(rt: &impl Print, name: &str, t: u32) -> io::Result<()> {
     let mut image = [0u8; 212];
-    show_tail(name, two_records(&mut image).tail_start(&mut image, Lsn(t)));
+    show_tail(
+        rt,
+        name,
+        two_records(&mut image).tail_start(&mut image, Lsn(t)),
+    )
 }
 
-pub fn tail() {
-    tail_to(b"9 tail start 0, tail", 0);
-    tail_to(b"9 tail start 1, tail", 1);
-    tail_to(b"9 tail start 2, tail", 2);
-    tail_to(b"9 tail start 3, tail", 3);
+pub fn tail(rt: &impl Print) -> io::Result<()> {
+    tail_to(rt, "9 tail start 0, tail", 0)?;
+    tail_to(rt, "9 tail start 1, tail", 1)?;
+    tail_to(rt, "9 tail start 2, tail", 2)?;
+    tail_to(rt, "9 tail start 3, tail", 3)
 }
 
 // A log at the last LSN but one: the state says so.
-pub fn last_lsn() {
+pub fn last_lsn(rt: &impl Print) -> io::Result<()> {
     let mut image = [0u8; 212];
     let state = running(&mut image).0;
     let mut starts = state.starts;
@@ -147,9 +163,10 @@ pub fn last_lsn() {
         ..state
     };
     let done = Log(near).append(&mut image, b"AB");
-    show_tail(b"10 append at tail 4294967294, tail", done);
+    show_tail(rt, "10 append at tail 4294967294, tail", done)?;
     show_tail(
-        b"10 the next append, tail",
+        rt,
+        "10 the next append, tail",
         done.log.append(&mut image, b"CD"),
-    );
+    )
 }
