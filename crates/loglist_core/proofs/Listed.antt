@@ -3,7 +3,7 @@ use Prim.Native.Nat.{ℕ, ◌≤◌, ◌<◌}
 use mathlib.Core.Path.{◌≡◌, refl, sym, ap, ◌∙◌}
 use mathlib.Core.List.{List}
 use native.Mathlib.Omega.{arith}
-use lib.ListN.{length, get_or, take, length-map, get_or-map}
+use lib.ListN.{get_or, take, length-map, get_or-map}
 use Rattle.metadata.specs.Metadata.{no_metadata}
 use Rattle.slots.specs.Entries.{slot_nos, lsn_nos, lsn_array}
 use Rattle.slots.proofs.Arrays.{starts_front}

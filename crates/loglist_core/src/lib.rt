@@ -69,7 +69,13 @@ pub fn print_image<W: Write>(to: &mut W, image: &[u8]) -> io::Result<()> {
     let starts = opening.starts;
     let tail = opening.tail;
     let n = m.n as usize;
-    print_line(to, "log", m.head.0 as u64, tail.0 as u64, m.version.0 as u64)?;
+    print_line(
+        to,
+        "log",
+        m.head.0 as u64,
+        tail.0 as u64,
+        m.version.0 as u64,
+    )?;
     print_extents(to, slots, starts, n, tail)
 }
 

@@ -1,5 +1,5 @@
 -- The last extent has no next start, and each other one's is read at i + 1.
-use Rattle.std.proofs.Common.{◌≡◌, ◌+◌, sym, ◌∙◌, arith}
+use Rattle.std.proofs.Common.{◌+◌, sym, ◌∙◌, arith}
 use Rattle.slots.proofs.Scan.{start_at}
 use Rattle.slots.specs.Entries.{lsn_nos}
 use Rattle.loglist_core.proofs.Ends.{end_of_last, end_of_other}

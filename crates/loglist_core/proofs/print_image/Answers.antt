@@ -1,5 +1,4 @@
 -- No more extents are printed than the arrays hold.
-use Rattle.std.proofs.Common.{◌≤◌}
 use Rattle.loglist_core.proofs.Listed.{at_most_64}
 use Rattle.loglist_core.proofs.print_image.Goals as goal
 

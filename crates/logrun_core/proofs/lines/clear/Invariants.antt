@@ -1,5 +1,5 @@
 -- Byte by byte.
-use Rattle.std.proofs.Common.{◌≤◌, ◌-◌, length}
+use Rattle.std.proofs.Common.{◌-◌, length}
 use Rattle.logrun_core.proofs.lines.clear.Given as goal
 
 abbrev pub decreases-loop-i : goal.decreases-loop-i

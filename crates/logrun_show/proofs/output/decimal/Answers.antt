@@ -1,6 +1,6 @@
 -- A number has at most 20 digits.
-use Rattle.std.proofs.Common.{◌≡◌, ◌≤◌, length, arith}
-use Rattle.std.proofs.Math.ListN.{take, length-take}
+use Rattle.std.proofs.Common.{arith}
+use Rattle.std.proofs.Math.ListN.{length-take}
 use Rattle.text.proofs.Printing.{decimal_short}
 use Rattle.logrun_show.proofs.output.decimal.Goals as goal
 
