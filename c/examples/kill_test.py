@@ -115,7 +115,7 @@ class Test:
         self.sent.write_bytes(b"".join(line(x) + b"\n" for x in range(first, first + LINES_A_RUN)))
 
     def time_whole_run(self):
-        """How long a run takes that nothing kills: under an emulator far longer."""
+        """How long a run takes that nothing kills."""
         self.send_from(1)
         begun = time.monotonic()
         with open(self.sent, "rb") as sent, open(self.echoed, "wb") as echoed:
@@ -192,7 +192,6 @@ class Test:
 
 def main():
     parser = argparse.ArgumentParser()
-    parser.add_argument("--emulator", default="")
     parser.add_argument("--kills", type=int, default=300)
     parser.add_argument("--seed", type=int, default=1)
     arguments = parser.parse_args()

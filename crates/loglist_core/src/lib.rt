@@ -94,8 +94,8 @@ fn read_full<R: Read>(from: &mut R, space: &mut [u8]) -> io::Result<usize>
     Ok(filled)
 }
 
-// Whether the input is too long, when its first n bytes are read. Fewer than the longest image are all there is, so that only behind a full buffer
-// one more byte is asked for.
+// Whether the input is too long, when its first n bytes are read. Fewer than the longest image are all there is, so that only behind a
+// full buffer one more byte is asked for.
 fn too_long<R: Read>(from: &mut R, n: usize) -> io::Result<bool>
     ensures { n < 65536 → result ≡ Ok false }
 {
