@@ -8,7 +8,6 @@ use Rattle.table.specs.Next.{next_of}
 use Rattle.slots.specs.Entries.{among, distinct, rising, leading}
 use Rattle.free.specs.Word.{word, count, lowest, is_free}
 use Rattle.scan.specs.Scan.{extents_in, all_begin, joined, tail_of_extents, place_of, head_in_first, extents_ok, open_number, scan}
-use Rattle.scan.specs.Answers.{opening_of, refused_opening}
 use Rattle.state.specs.Change.{zero_state}
 use Rattle.well.specs.Well.{list_ok, below_second, head_ok, marks_ok, place_ok, pending_ok, roll_ok, unused_ok, well_formed}
 use Rattle.outcome.specs.Outcome.{outcome}
@@ -33,7 +32,7 @@ unfolding
     first_of record_bytes complete_at allowed header_at payloads_from sizes
     area sizes_ok listed metadata_bytes all_below rules value_of number_of
     among distinct rising leading word count lowest is_free
-    extents_in all_begin joined tail_of_extents place_of head_in_first extents_ok open_number scan opening_of refused_opening next_of
+    extents_in all_begin joined tail_of_extents place_of head_in_first extents_ok open_number scan next_of
     list_ok below_second head_ok marks_ok place_ok pending_ok roll_ok unused_ok well_formed outcome sized enter_number
     zero_state fresh_state fresh_image create_image open_answer rest_outcome mark_outcome append_rules append_number append_outcome head_finish_outcome close_outcome
     roll_begin_rules roll_begin_number roll_begin_outcome roll_write_rules roll_write_number roll_write_outcome roll_list_outcome head_start_rules head_start_number head_start_outcome

@@ -8,7 +8,7 @@ use Rattle.refusals.specs.Order.{when}
 use Rattle.free.specs.Word.{count}
 use Rattle.state.specs.declared.State.{State}
 use Rattle.state.specs.State.{free_in}
-use Rattle.counts.specs.declared.Counts.{Counts}
+use Rattle.counts.specs.Counts.{Report}
 use Rattle.counts.specs.Counts.{counts_number, counted, uncounted, counts_of, CountsContract}
 use Rattle.contracts.specs.Promises.{Refused, NoSecondOutcome, NoSecondAnswer, CountsNotInvented, RefusedCountsReportNothing}
 
@@ -31,11 +31,11 @@ no_second_answer = record {
 
 -- ---- counts: done, or refused
 
-module _ (g : State) (r : Counts) (p : CountsContract g r) where
-  abbrev answered : Bool → Counts
+module _ (g : State) (r : Report) (p : CountsContract g r) where
+  abbrev answered : Bool → Report
   answered t = when t (counted g) (uncounted (counts_number g))
 
-  pub counts_by : (P : Counts → Type 0) → (r ≡ counted g → P r) → (Refused (counts_number g) → r ≡ uncounted (counts_number g) → P r) → P r
+  pub counts_by : (P : Report → Type 0) → (r ≡ counted g → P r) → (Refused (counts_number g) → r ≡ uncounted (counts_number g) → P r) → P r
   unfolding counts_of
   counts_by P done refused = by (eqb (counts_number g) 0) refl p
     where
@@ -46,13 +46,13 @@ module _ (g : State) (r : Counts) (p : CountsContract g r) where
 pub counts_not_invented : CountsNotInvented
 unfolding CountsNotInvented
 counts_not_invented g r p e =
-    counts_by g r p (λ (c : Counts). (c.free ≡ count (free_in g) 64) × (c.live ≡ g.tail.0 - g.head.0))
-    (λ s. (ap (λ (c : Counts). c.free) s, ap (λ (c : Counts). c.live) s))
-    (λ no' s. absurd (no' (sym (ap (λ (c : Counts). c.number) s) ∙ e)))
+    counts_by g r p (λ (c : Report). (c.free ≡ count (free_in g) 64) × (c.live ≡ g.tail.0 - g.head.0))
+    (λ s. (ap (λ (c : Report). c.free) s, ap (λ (c : Report). c.live) s))
+    (λ no' s. absurd (no' (sym (ap (λ (c : Report). c.number) s) ∙ e)))
 
 pub refused_counts_report_nothing : RefusedCountsReportNothing
 unfolding RefusedCountsReportNothing
 refused_counts_report_nothing g r p no' =
-    counts_by g r p (λ (c : Counts). (c.free ≡ 0) × (c.live ≡ 0))
-    (λ s. absurd (no' (ap (λ (c : Counts). c.number) s)))
-    (λ no'' s. (ap (λ (c : Counts). c.free) s, ap (λ (c : Counts). c.live) s))
+    counts_by g r p (λ (c : Report). (c.free ≡ 0) × (c.live ≡ 0))
+    (λ s. absurd (no' (ap (λ (c : Report). c.number) s)))
+    (λ no'' s. (ap (λ (c : Report). c.free) s, ap (λ (c : Report). c.live) s))

@@ -11,14 +11,14 @@ use Rattle.metadata.specs.Metadata.{sizes_ok}
 use Rattle.metadata.proofs.Samples.{fresh_bytes}
 use Rattle.table.specs.declared.Mode.TheVariants.{Opened, Wiped, Written, Tail}
 use Rattle.state.specs.declared.State.{State}
-use Rattle.state.specs.declared.Answer.{Answer}
+use Rattle.state.specs.State.{Answer}
 use Rattle.state.specs.Change.{in_mode}
-use Rattle.counts.specs.declared.Counts.{Counts}
+use Rattle.counts.specs.Counts.{Report}
 use Rattle.counts.specs.Counts.{counts_of}
 use Rattle.create.specs.Create.{fresh_state, fresh_image}
 use Rattle.roll.specs.Begin.{begun_state}
 use Rattle.head.specs.Start.{headed_state}
-use Rattle.read.specs.declared.Reading.{Reading}
+use Rattle.read.specs.Read.{Reading}
 use Rattle.contracts.specs.Call.{Call, wipes, marks, appends, roll_begins, roll_writes, roll_lists, head_starts, head_finishes, tail_starts}
 use Rattle.contracts.specs.Call.{tail_finishes, closes, does}
 use Rattle.contracts.specs.Cheats.{Program, Meets, Excluded, Refuses, RefusesEverythingExcluded, OpenRefusesEverythingExcluded}
@@ -116,10 +116,10 @@ fixed_counts_excluded f m c = (
 )
   where
     number : (g : State) → (counts_of g).number ≡ 0 → (f g).number ≡ 0
-    number g e = ap (λ (x : Counts). x.number) (m g) ∙ e
+    number g e = ap (λ (x : Report). x.number) (m g) ∙ e
 
     free : ((g : State) → (f g).number ≡ 0 → (f g).free ≡ c) → (g : State) → (counts_of g).number ≡ 0 → (counts_of g).free ≡ c
-    free r g e = sym (ap (λ (x : Counts). x.free) (m g)) ∙ r g (number g e)
+    free r g e = sym (ap (λ (x : Report). x.free) (m g)) ∙ r g (number g e)
 
     live : ((g : State) → (f g).number ≡ 0 → (f g).live ≡ c) → (g : State) → (counts_of g).number ≡ 0 → (counts_of g).live ≡ c
-    live r g e = sym (ap (λ (x : Counts). x.live) (m g)) ∙ r g (number g e)
+    live r g e = sym (ap (λ (x : Report). x.live) (m g)) ∙ r g (number g e)

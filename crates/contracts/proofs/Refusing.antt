@@ -7,7 +7,7 @@ use lib.Dec.{eqb}
 use lib.ListN.{length}
 use Rattle.refusals.specs.Order.{when}
 use Rattle.scan.specs.Scan.{Scan, refused, opened, scan}
-use Rattle.state.specs.declared.Answer.{Answer}
+use Rattle.state.specs.State.{Answer}
 use Rattle.state.specs.State.{answer}
 use Rattle.state.specs.Change.{zero_state}
 use Rattle.outcome.specs.Enter.{sized}

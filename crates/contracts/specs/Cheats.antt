@@ -4,13 +4,13 @@ use Rattle.refusals.specs.Refusals.{DONE}
 use Rattle.metadata.specs.Layout.{slot_place}
 use Rattle.free.specs.Word.{count}
 use Rattle.state.specs.declared.State.{State}
-use Rattle.state.specs.declared.Answer.{Answer}
+use Rattle.state.specs.State.{Answer}
 use Rattle.state.specs.State.{write_slot, free_in}
 use Rattle.outcome.specs.Outcome.{Did}
-use Rattle.counts.specs.declared.Counts.{Counts}
+use Rattle.counts.specs.Counts.{Report}
 use Rattle.counts.specs.Counts.{CountsContract}
 use Rattle.recovery.specs.Recovery.{OpenContract}
-use Rattle.read.specs.declared.Reading.{Reading}
+use Rattle.read.specs.Read.{Reading}
 use Rattle.read.specs.Read.{ReadContract}
 use Rattle.contracts.specs.Call.{Call, wipes, marks, appends, roll_begins, roll_writes, roll_lists, head_starts, head_finishes, tail_starts}
 use Rattle.contracts.specs.Call.{tail_finishes, closes, does}
@@ -96,7 +96,7 @@ WipingTailStartExcluded = Excluded (tail_starts 1) AlsoWipes
 -- where a program's counts are done they are the free rule's and tail less head
 unfoldable pub InventedCountsExcluded : Type 0
 InventedCountsExcluded =
-    (f : State → Counts)
+    (f : State → Report)
     → ((g : State) → CountsContract g (f g))
     → (g : State)
     → (f g).number ≡ DONE
@@ -106,7 +106,7 @@ InventedCountsExcluded =
 -- so neither count is one number for all states
 unfoldable pub FixedCountsExcluded : Type 0
 FixedCountsExcluded =
-    (f : State → Counts)
+    (f : State → Report)
     → ((g : State) → CountsContract g (f g))
     → (c : ℕ)
     → (((g : State) → (f g).number ≡ DONE → (f g).free ≡ c) → ⊥) × (((g : State) → (f g).number ≡ DONE → (f g).live ≡ c) → ⊥)

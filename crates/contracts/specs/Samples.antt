@@ -10,7 +10,7 @@ use Rattle.metadata.proofs.Samples.{fresh_bytes}
 use Rattle.table.specs.declared.Mode.TheVariants.{Run}
 use Rattle.scan.specs.Scan.{scan}
 use Rattle.state.specs.declared.State.{State}
-use Rattle.state.specs.declared.Answer.{Answer}
+use Rattle.state.specs.State.{Answer}
 use Rattle.state.specs.State.{longest}
 use Rattle.state.specs.Change.{in_mode, tail_at}
 use Rattle.outcome.specs.Outcome.{Outcome}

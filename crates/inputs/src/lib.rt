@@ -31,14 +31,6 @@ fn say(rt: &impl Print, word: &[u8], name: &[u8]) -> io::Result<()> {
     rt.write_all(b"\n")
 }
 
-// A dash is standard input.
-fn is_dash(name: &[u8]) -> bool {
-    if name.len() == 1 {
-        return name[0] == b'-';
-    }
-    false
-}
-
 // A directory can be opened, and refuses even a read of no bytes. A path is UTF-8: a name that is not cannot be read.
 fn open_file<R: Files>(rt: &R, name: &[u8]) -> Option<R::File> {
     let path = str::from_utf8(name).ok()?;
@@ -47,8 +39,9 @@ fn open_file<R: Files>(rt: &R, name: &[u8]) -> Option<R::File> {
     Some(file)
 }
 
+// A dash is standard input.
 fn open_name<R: Files + Input>(rt: &R, name: &[u8]) -> Option<Source<R::Reader, R::File>> {
-    if is_dash(name) {
+    if name == b"-".as_slice() {
         return Some(Source::Stdin(rt.reader()));
     }
     Some(Source::File(open_file(rt, name)?))
@@ -58,22 +51,16 @@ fn open_name<R: Files + Input>(rt: &R, name: &[u8]) -> Option<Source<R::Reader, 
 fn name_of(rt: &impl Env, i: usize, space: &mut [u8]) -> usize
     ensures { result ≤ length space.new }
 {
-    match rt.arg(i, space) {
-        Ok(n) => n,
-        Err(_) => 0,
-    }
+    rt.arg(i, space).unwrap_or(0)
 }
 
 // Whether there is an argument i. It need not fit a buffer for that.
-pub fn is_there(rt: &impl Env, i: usize) -> bool {
-    match rt.arg(i, &mut []) {
-        Err(FillError::NotPresent) => false,
-        _ => true,
-    }
+fn is_there(rt: &impl Env, i: usize) -> bool {
+    !matches!(rt.arg(i, &mut []), Err(FillError::NotPresent))
 }
 
 // Opens what argument i names, and prints its name; nothing where it cannot be read, which is printed too.
-pub fn open<R: Env + Files + Input + Print>(
+fn open<R: Env + Files + Input + Print>(
     rt: &R,
     i: usize,
 ) -> io::Result<Option<Source<R::Reader, R::File>>> {
@@ -92,5 +79,21 @@ pub fn open<R: Env + Files + Input + Print>(
     }
 }
 
-// Standard input stays open: it may be named again.
-pub fn close<S: Drop, F: Drop>(_source: Source<S, F>) {}
+// The work is done on what each argument names, in their order, and on standard input where there is none. The first argument is the
+// program's own name. Behind its work each is let go: a file is closed, and standard input stays open, since it may be named again.
+pub fn for_each<R, F>(rt: &R, work: F) -> io::Result<()>
+where
+    R: Env + Files + Input + Print,
+    F: Fn(&mut Source<R::Reader, R::File>) -> io::Result<()>,
+    requires { F.IsAlwaysCallable work }
+{
+    if !is_there(rt, 1) {
+        return work(&mut Source::Stdin(rt.reader()));
+    }
+    for i in (1..usize::MAX).take_while(|i| is_there(rt, *i)) {
+        if let Some(mut source) = open(rt, i)? {
+            work(&mut source)?;
+        }
+    }
+    Ok(())
+}

@@ -41,7 +41,6 @@ rests_on k r = record { keeps = k; sound = r.sound; head = r.head; live = r.live
 -- the state that open finds in the book
 abbrev pub state_of : Book → State
 state_of b = found_state (record {
-  number = 0;
   metadata = metadata_in b;
   starts = lsn_array (book_starts b);
   tail = lsn (tail b);

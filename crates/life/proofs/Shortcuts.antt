@@ -12,8 +12,7 @@ use Rattle.medium.specs.Store.{laid_one, laid_first, laid, arrives}
 use Rattle.record.specs.Record.{record_bytes}
 use Rattle.stores.specs.Stores.{extent_bytes}
 use Rattle.scan.specs.Scan.{scan}
-use Rattle.scan.specs.Answers.{opening_of}
-use Rattle.state.specs.declared.Answer.{Answer}
+use Rattle.state.specs.State.{Answer}
 use Rattle.recovery.specs.Recovery.{open_answer}
 use Rattle.contracts.specs.Call.{Call, opens, wipes, marks, appends, roll_begins, roll_writes, roll_lists, head_starts, head_finishes, tail_starts}
 use Rattle.contracts.specs.Call.{tail_finishes, does}
@@ -36,7 +35,7 @@ due w = 0 ∷ w.history.head ∷ end_in w.history ∷ []
 
 -- demand 3 says that open finds what is due
 demanded : {e s : ℕ} (w : World) → Found e s w.image w.history → finds w ≡ due w
-unfolding open_answer opening_of
+unfolding open_answer
 demanded w f = rw (f.opens, f.head, f.tail)
 
 -- the right way: open finds what is due

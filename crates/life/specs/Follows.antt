@@ -9,7 +9,7 @@ use Rattle.table.specs.Next.{next_of}
 use Rattle.table.specs.declared.Mode.TheVariants.{Run}
 use Rattle.table.specs.declared.Step.TheVariants.{Read}
 use Rattle.scan.specs.Scan.{Scan, refused, opened, scan}
-use Rattle.state.specs.declared.Answer.{Answer}
+use Rattle.state.specs.State.{Answer}
 use Rattle.outcome.specs.Enter.{leads}
 use Rattle.counts.specs.Counts.{counts_of}
 use Rattle.create.specs.Create.{CreateContract}

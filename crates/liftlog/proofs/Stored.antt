@@ -1,5 +1,5 @@
 -- What an exported call says of its store is the name of the store that the definition has: none where it is refused.
-use Prim.Native.Nat.{ℕ, ◌+◌, ◌-◌, ◌<◌}
+use Prim.Native.Nat.{ℕ, ◌+◌, ◌-◌}
 use mathlib.Core.Path.{◌≡◌, refl, sym, ap, ◌∙◌}
 use mathlib.Core.Bool.{Bool, true, false}
 use mathlib.Core.List.{List}
@@ -17,7 +17,10 @@ use Rattle.stores.specs.Stores.{record_store, extent_store, metadata_store, no_s
 use Rattle.table.specs.declared.Step.{Step}
 use Rattle.table.specs.declared.Step.TheVariants.{Mark, RollList, HeadStart, HeadFinish, TailStart, Close}
 use Rattle.state.specs.declared.State.{State}
-use Rattle.state.specs.declared.Answer.{Answer}
+use Rattle.state.specs.State.{Answer, answered}
+use Rattle.std.specs.Prelude.{Result}
+use Rattle.refusals.specs.Refusals.{number_in}
+use Rattle.refusals.specs.declared.Refusal.{Refusal}
 use Rattle.state.specs.State.{write_at, metadata_of}
 use Rattle.state.specs.Change.{in_mode}
 use Rattle.well.specs.Well.{well_formed}
@@ -43,19 +46,19 @@ use Rattle.named.specs.declared.Named.{Named}
 use Rattle.named.specs.Named.{kind_no, metadata, record', wipe, nothing, named_as, named, when_done}
 use Rattle.named.proofs.Names.{outcome_named, record_count, extent_count, wipe_count}
 use Rattle.mirror.specs.declared.State.{State as Mirror}
-use Rattle.mirror.specs.Mirror.{log_of, state_of, answer}
+use Rattle.mirror.specs.Mirror.{known, log_of, state_of, answer}
 use Rattle.liftlog.specs.Told.{told_answer}
-use Rattle.liftlog.proofs.Tells.{known_answer}
+use Rattle.liftlog.proofs.Tells.{answered_number, known_answer}
 
-module _ (number : ℕ) (g next : State) (s : Store) (l l' : List ℕ) (a : Answer) (did : Did (outcome number g next s) l a l') where
+module _ (number : ℕ) (g next : State) (s : Store) (l l' : List ℕ) (ended : Result State Refusal) (did : Did (outcome number g next s) l (answered g ended) l') where
   -- the answer's number is the call's
-  pub told_number : a.number ≡ number
-  told_number = ap (λ (x : Answer). x.number) did.answer ∙ number_is number g next s
+  pub told_number : number_in ended ≡ number
+  told_number = sym (answered_number g ended) ∙ ap (λ (x : Answer). x.number) did.answer ∙ number_is number g next s
 
   stored :
       (n : ℕ) (r : Named)
       → (number ≡ 0 → count s ≡ n)
-      → r ≡ when_done a.number (kind_no s.kind) s.place n
+      → r ≡ when_done (number_in ended) (kind_no s.kind) s.place n
       → r ≡ named (outcome number g next s).store
   stored n r f e =
       e ∙ ap (λ (k : ℕ). when_done k (kind_no s.kind) s.place n) told_number ∙ sym (outcome_named number g next s n f)
@@ -76,37 +79,37 @@ finish_stored g l = by (eqb (enter_number HeadFinish g (length l)) 0)
 
 pub finish_told :
     (state : Mirror) (l : List ℕ)
-    → state.mode < 10
+    → true ≡ known state.mode
     → let o = head_finish_outcome (log_of state) l in
     answer o.number nothing (state_of o.next) ≡ told_answer head_finishes state l
 unfolding does
-finish_told state l h =
+finish_told state l k =
     let o : Outcome = head_finish_outcome (log_of state) l in
-    ap (λ (n : Named). answer o.number n (state_of o.next)) (finish_stored (log_of state) l) ∙ known_answer head_finishes state l h
+    ap (λ (n : Named). answer o.number n (state_of o.next)) (finish_stored (log_of state) l) ∙ known_answer head_finishes state l k
 
 -- ---- wipe and tail finish
 
-module _ (step : Step) (g : State) (l l' : List ℕ) (a : Answer) (did : Did (rest_outcome step g l) l a l') where
-  pub rest_known : a.number ≡ 0 → (sizes_ok g.e g.s ≡ true) × (well_formed g ≡ true)
+module _ (step : Step) (g : State) (l l' : List ℕ) (ended : Result State Refusal) (did : Did (rest_outcome step g l) l (answered g ended) l') where
+  pub rest_known : number_in ended ≡ 0 → (sizes_ok g.e g.s ≡ true) × (well_formed g ≡ true)
   unfolding rest_outcome
   rest_known z =
       let n = entered step g (length l) (sym (told_number _ _ _ _ _ _ _ did) ∙ z) in
       (n.stands.sizes, n.well_is)
 
-  pub rest_stored : (r : Named) → r ≡ when_done a.number wipe (write_at g) (g.e - g.place) → r ≡ named (rest_outcome step g l).store
+  pub rest_stored : (r : Named) → r ≡ when_done (number_in ended) wipe (write_at g) (g.e - g.place) → r ≡ named (rest_outcome step g l).store
   unfolding rest_outcome
   rest_stored r e = stored _ _ _ (rest_store g) _ _ _ did (g.e - g.place) r (λ z. wipe_count (write_at g) (g.e - g.place)) e
 
 -- ---- append
 
-module _ (g : State) (l p l' : List ℕ) (a : Answer) (did : Did (append_outcome g l p) l a l') where
-  pub append_known : a.number ≡ 0 → (sizes_ok g.e g.s ≡ true) × (well_formed g ≡ true)
+module _ (g : State) (l p l' : List ℕ) (ended : Result State Refusal) (did : Did (append_outcome g l p) l (answered g ended) l') where
+  pub append_known : number_in ended ≡ 0 → (sizes_ok g.e g.s ≡ true) × (well_formed g ≡ true)
   unfolding append_outcome
   append_known z =
       let n = (appends_says g (length l) (length p) (sym (told_number _ _ _ _ _ _ _ did) ∙ z)).enters in
       (n.stands.sizes, n.well_is)
 
-  pub append_stored : (r : Named) → r ≡ when_done a.number record' (write_at g) (length p + around_payload) → r ≡ named (append_outcome g l p).store
+  pub append_stored : (r : Named) → r ≡ when_done (number_in ended) record' (write_at g) (length p + around_payload) → r ≡ named (append_outcome g l p).store
   unfolding append_outcome
   append_stored r e =
       let s : Store = record_store (write_at g) p g.tail.0 g.version.0 in
@@ -122,9 +125,9 @@ placed k kind a b n f = by (eqb k 0) refl
     by true e = ap (λ (x : ℕ). named_as kind x n) (f (eqb-true k 0 e))
     by false e = refl
 
-module _ (g : State) (l : List ℕ) (p : ℕ) (l' : List ℕ) (a : Answer) (did : Did (roll_begin_outcome g l p) l a l') where
+module _ (g : State) (l : List ℕ) (p : ℕ) (l' : List ℕ) (ended : Result State Refusal) (did : Did (roll_begin_outcome g l p) l (answered g ended) l') where
   -- the slot that it has taken is in its answer
-  taken_slot : a.number ≡ 0 → slot_place g.e a.log.roll_slot.0 ≡ slot_place g.e (lowest_free g)
+  taken_slot : number_in ended ≡ 0 → slot_place g.e (answered g ended).log.roll_slot.0 ≡ slot_place g.e (lowest_free g)
   unfolding roll_begin_outcome
   taken_slot z =
       let k = sym (told_number _ _ _ _ _ _ _ did) ∙ z in
@@ -132,29 +135,29 @@ module _ (g : State) (l : List ℕ) (p : ℕ) (l' : List ℕ) (a : Answer) (did 
       ∙ ap (λ (o : Outcome). slot_place g.e o.next.roll_slot.0) (done_is _ _ _ _ k)
 
   pub begin_stored :
-      (r : Named) → r ≡ when_done a.number wipe (slot_place g.e a.log.roll_slot.0) g.e → r ≡ named (roll_begin_outcome g l p).store
+      (r : Named) → r ≡ when_done (number_in ended) wipe (slot_place g.e (answered g ended).log.roll_slot.0) g.e → r ≡ named (roll_begin_outcome g l p).store
   unfolding roll_begin_outcome
   begin_stored r e =
       let at : ℕ = slot_place g.e (lowest_free g) in
-      stored _ _ _ (wipe_of at g.e) _ _ _ did g.e r (λ z. wipe_count at g.e) (e ∙ placed a.number wipe _ at g.e taken_slot)
+      stored _ _ _ (wipe_of at g.e) _ _ _ did g.e r (λ z. wipe_count at g.e) (e ∙ placed (number_in ended) wipe _ at g.e taken_slot)
 
 pub write_stored :
-    (g : State) (l p l' : List ℕ) (a : Answer)
-    → Did (roll_write_outcome g l p) l a l'
+    (g : State) (l p l' : List ℕ) (ended : Result State Refusal)
+    → Did (roll_write_outcome g l p) l (answered g ended) l'
     → (r : Named)
-    → r ≡ when_done a.number record' (slot_place g.e g.roll_slot.0) (length p + (header_length + around_payload))
+    → r ≡ when_done (number_in ended) record' (slot_place g.e g.roll_slot.0) (length p + (header_length + around_payload))
     → r ≡ named (roll_write_outcome g l p).store
 unfolding roll_write_outcome
-write_stored g l p l' a did r e =
+write_stored g l p l' ended did r e =
     let at : ℕ = slot_place g.e g.roll_slot.0 in
     let s : Store = extent_store at p g.tail.0 g.version.0 in
     stored _ _ _ s _ _ _ did (length p + (header_length + around_payload)) r (λ z. extent_count at p g.tail.0 g.version.0) e
 
 -- ---- the other deciding steps: the next state's arrays have 64 entries again, so that its metadata has 84 bytes
 
-module _ (g : State) (slots : length g.slots ≡ 64) (starts : length g.starts ≡ 64) (l l' : List ℕ) (a : Answer) (r : Named) where
+module _ (g : State) (slots : length g.slots ≡ 64) (starts : length g.starts ≡ 64) (l l' : List ℕ) (ended : Result State Refusal) (r : Named) where
   abbrev Says : Call → Type 0
-  Says c = Did (does c g l) l a l' → r ≡ when_done a.number metadata 0 area_length → r ≡ named (does c g l).store
+  Says c = Did (does c g l) l (answered g ended) l' → r ≡ when_done (number_in ended) metadata 0 area_length → r ≡ named (does c g l).store
 
   decided : (c : Call) (step : Step) (number : ℕ) (next : State) (clean : Bool) → is_open_call c ≡ false → does c g l ≡ changed step number g next clean → Says c
   decided c step number next clean on is did e =
@@ -163,7 +166,7 @@ module _ (g : State) (slots : length g.slots ≡ 64) (starts : length g.starts �
       let long : number ≡ 0 → length next.slots ≡ 64 = λ z.
       let done : (does c g l).number ≡ 0 = rw is (number_is number g m s ∙ z) in
       rw (is, done_is number g m s z) at ((state_call c on).settles g l slots starts done).slots in
-      rw is (stored number g m s l l' a (rw is at did) area_length r (λ z. metadata_length (metadata_of clean next) (long z)) e)
+      rw is (stored number g m s l l' ended (rw is at did) area_length r (λ z. metadata_length (metadata_of clean next) (long z)) e)
 
   pub mark_stored : Says marks
   unfolding does mark_outcome

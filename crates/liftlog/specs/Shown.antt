@@ -3,9 +3,9 @@ use Rattle.std.specs.Prelude.{ℕ, ◌≡◌, List, length}
 use Rattle.refusals.specs.Order.{when}
 use Rattle.metadata.specs.Metadata.{sizes_ok}
 use Rattle.outcome.specs.Enter.{sized}
-use Rattle.counts.specs.declared.Counts.{Counts}
+use Rattle.counts.specs.Counts.{Report as LogReport}
 use Rattle.counts.specs.Counts.{counts_of}
-use Rattle.read.specs.declared.Reading.{Reading as LogReading}
+use Rattle.read.specs.Read.{Reading as LogReading}
 use Rattle.read.specs.Read.{read_answer}
 use Rattle.mirror.specs.declared.State.{State}
 use Rattle.liftlog.specs.declared.Reading.{Reading}
@@ -32,7 +32,7 @@ ReadTold state l x r = r ≡ told_reading state l x
 abbrev pub report : ℕ → ℕ → ℕ → Report
 report k free live = record { number = k; free = free; live = live }
 
-abbrev pub report_of : Counts → Report
+abbrev pub report_of : LogReport → Report
 report_of c = report c.number c.free c.live
 
 unfoldable pub told_report : State → Report

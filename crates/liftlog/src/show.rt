@@ -4,41 +4,39 @@ ghost use Rattle.liftlog.specs.Shown.{ReadTold, CountsTold};
 use crate::{Reading, Report};
 use mirror::State;
 use record::Lsn;
+use refusals::DONE;
+use state::State as Log;
 
 pub fn liftlog_read(state: State, image: &[u8], lsn: Lsn) -> Reading
     ensures { ReadTold state image.now lsn.0 result }
 {
-    if mirror::UNKNOWN <= state.mode {
-        let number = mirror::unknown_number(outcome::sized(state.e, state.s, image.len()));
-        return Reading {
-            number,
-            place: 0,
-            length: 0,
-        };
-    }
-    let found = read::read(state.log(), image, lsn);
-    Reading {
-        number: found.number,
-        place: found.place,
-        length: found.length,
+    let Ok(log) = Log::try_from(state) else {
+        let sized = outcome::sized(state.e, state.s, image.len());
+        return Reading::refused(mirror::unknown(sized));
+    };
+    match read::read(log, image, lsn) {
+        Ok(span) => Reading {
+            number: DONE,
+            place: span.place,
+            length: span.length,
+        },
+        Err(why) => Reading::refused(why),
     }
 }
 
 pub fn liftlog_counts(state: State) -> Report
     ensures { CountsTold state result }
 {
-    if mirror::UNKNOWN <= state.mode {
-        let number = mirror::unknown_number(metadata::sizes_ok(state.e, state.s));
-        return Report {
-            number,
-            free: 0,
-            live: 0,
-        };
-    }
-    let counted = counts::count(state.log());
-    Report {
-        number: counted.number,
-        free: counted.free,
-        live: counted.live,
+    let Ok(log) = Log::try_from(state) else {
+        let sized = metadata::sizes_ok(state.e, state.s);
+        return Report::refused(mirror::unknown(sized));
+    };
+    match counts::count(log) {
+        Ok(counted) => Report {
+            number: DONE,
+            free: counted.free,
+            live: counted.live,
+        },
+        Err(why) => Report::refused(why),
     }
 }

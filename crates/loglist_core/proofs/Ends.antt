@@ -1,34 +1,23 @@
 -- The end that is listed for an extent is the LSN behind its last record: the walk of each but the last stops where the next one starts.
-use Prim.Native.Nat.{ℕ, zero, suc, ◌+◌, ◌≤◌, ◌<◌}
+use Prim.Native.Nat.{ℕ, zero, suc, ◌+◌, ◌<◌}
 use mathlib.Core.Path.{◌≡◌, refl, sym}
 use mathlib.Core.Bool.{true}
 use mathlib.Core.List.{List, [], ◌∷◌}
 use native.Mathlib.Nat.{le_of_suc-le-suc}
 use native.Mathlib.Numerals.{add-one}
 use native.Mathlib.Omega.{arith}
-use lib.ListN.{length, get_or, take, get_or-eq_default}
-use Rattle.slots.proofs.Scan.{take_ends}
+use lib.ListN.{length, get_or, get_or-map}
+use Rattle.record.specs.declared.Lsn.{Lsn}
+use Rattle.slots.specs.Entries.{lsn_nos}
 use Rattle.scan.specs.Scan.{Extent, end_of, joined, tail_of_extents}
 use Rattle.scan.specs.Answers.{starts_of}
 use Rattle.scan.proofs.Indexed.{extent_at, joined_cons}
 use Rattle.loglist_core.specs.Ends.{end_at}
 
--- ---- the two cases of end_of
-
--- past the end of a list stands the default, and before it no default matters
-any_default : (l : List ℕ) (k d d' : ℕ) → k < length l → get_or l k d ≡ get_or l k d'
-any_default [] k d d' h = absurd (omega arith)
-any_default (x ∷ xs) zero d d' h = refl
-any_default (x ∷ xs) (suc k) d d' h = any_default xs k d d' (le_of_suc-le-suc h)
-
-module _ (starts : List ℕ) (tail i : ℕ) where
-  pub end_of_last : (n : ℕ) → n ≤ i + 1 → end_at (take n starts) tail i ≡ tail
-  unfolding end_at
-  end_of_last n h = get_or-eq_default (take n starts) tail {n = i + 1} (omega (arith, take_ends n starts))
-
-  pub end_of_other : i + 1 < length starts → end_at starts tail i ≡ get_or starts (i + 1) 0
-  unfolding end_at
-  end_of_other h = any_default starts (i + 1) tail 0 h
+-- the end is read of the starts as they are
+pub end_read : (starts : List Lsn) (tail : Lsn) (i : ℕ) → end_at (lsn_nos starts) tail.0 i ≡ (get_or starts (i + 1) tail).0
+unfolding end_at
+end_read starts tail i = get_or-map (λ (x : Lsn). x.0) starts (i + 1) tail
 
 -- ---- the end is where the walk stops
 

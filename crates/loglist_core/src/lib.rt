@@ -2,7 +2,7 @@
 
 #![tactic(auto)]
 
-ghost use Rattle.std.specs.Prelude.{◌≡◌, false, ◌≤◌, ◌<◌, take, length, IfOk, Ok};
+ghost use Rattle.std.specs.Prelude.{◌≡◌, false, ◌≤◌, ◌<◌, length, IfOk, Ok};
 ghost use Rattle.slots.specs.Entries.{lsn_nos};
 ghost use Rattle.loglist_core.specs.Ends.{end_at};
 
@@ -14,69 +14,41 @@ use std::io::{Read, Write};
 // The longest image that is listed, 64 KiB.
 const LONGEST_IMAGE: usize = 65536;
 
-// The end of extent i of n: the next start, of the last the tail.
-fn end_of(starts: [Lsn; 64], n: usize, tail: Lsn, i: usize) -> Lsn
-    requires { (i < n) × (n ≤ 64) }
-    ensures { result.0 ≡ end_at (take n (lsn_nos starts)) tail.0 i }
+// The end of extent i: the next start, of the last the tail.
+#[tactic(auto, using(crate::proofs::Ends::end_read))]
+fn end_of(starts: &[Lsn], tail: Lsn, i: usize) -> Lsn
+    requires { i < length starts.now }
+    ensures { result.0 ≡ end_at (lsn_nos starts.now) tail.0 i }
 {
-    let next = i + 1;
-    if next == n {
-        return tail;
-    }
-    slots::start_at(starts, n, next)
-}
-
-// A line of a word and three numbers: `log` and `ext` both have three. One space stands before each number, so that fields are parted by
-// one and a line ends in none.
-fn print_line<W: Write>(
-    to: &mut W,
-    word: &str,
-    first: u64,
-    second: u64,
-    third: u64,
-) -> io::Result<()> {
-    writeln!(to, "{word} {first} {second} {third}")
+    starts.get(i + 1).copied().unwrap_or(tail)
 }
 
 // The extents in the order of the listing, which is that of their LSNs and not of their slots.
 fn print_extents<W: Write>(
     to: &mut W,
-    slots: [Slot; 64],
-    starts: [Lsn; 64],
-    n: usize,
+    slots: &[Slot],
+    starts: &[Lsn],
     tail: Lsn,
-) -> io::Result<()>
-    requires { n ≤ 64 }
-{
-    for i in 0..n {
-        let slot = slots::slot_at(slots, n, i);
-        let start = slots::start_at(starts, n, i);
-        let end = end_of(starts, n, tail, i);
-        print_line(to, "ext", slot.0 as u64, start.0 as u64, end.0 as u64)?;
+) -> io::Result<()> {
+    for (i, (slot, start)) in slots.iter().zip(starts).enumerate() {
+        let end = end_of(starts, tail, i);
+        writeln!(to, "ext {} {} {}", slot.0, start.0, end.0)?;
     }
     Ok(())
 }
 
 // The image as open finds it, or the number of the first rule that it breaks.
+#[tactic(auto, using(crate::proofs::Listed::at_most_64))]
 pub fn print_image<W: Write>(to: &mut W, image: &[u8]) -> io::Result<()> {
-    let opening = scan::read_image(image);
-    let number = opening.number;
-    if number != refusals::DONE {
-        return writeln!(to, "refused {number}");
-    }
+    let opening = match scan::read_image(image) {
+        Ok(opening) => opening,
+        Err(why) => return writeln!(to, "refused {why}"),
+    };
     let m = opening.metadata;
-    let slots = m.slots;
-    let starts = opening.starts;
     let tail = opening.tail;
-    let n = m.n as usize;
-    print_line(
-        to,
-        "log",
-        m.head.0 as u64,
-        tail.0 as u64,
-        m.version.0 as u64,
-    )?;
-    print_extents(to, slots, starts, n, tail)
+    let n = usize::from(m.n);
+    writeln!(to, "log {} {} {}", m.head.0, tail.0, m.version.0)?;
+    print_extents(to, &m.slots[..n], &opening.starts[..n], tail)
 }
 
 // Reads until the space is full or the input ends; how many bytes came.
@@ -103,7 +75,7 @@ fn too_long<R: Read>(from: &mut R, n: usize) -> io::Result<bool>
         return Ok(false);
     }
     let mut next = [0u8; 1];
-    Ok(0 < read_full(from, &mut next)?)
+    Ok(from.read(&mut next)? != 0)
 }
 
 // The image that a reader gives. It may arrive in pieces, so it is read to its end before a byte is looked at.

@@ -6,31 +6,10 @@
 #![tactic(auto)]
 
 use std::io;
-use std::rt::{Env, Files};
-
-fn drive_file<R: Env + Files + Input + Print>(rt: &R, i: usize) -> io::Result<()> {
-    let Some(mut source) = inputs::open(rt, i)? else {
-        return Ok(());
-    };
-    logrun_core::drive(&mut source, &mut io::writer(rt))?;
-    inputs::close(source);
-    Ok(())
-}
-
-// The arguments but the first, which is the program's own name.
-fn drive_files<R: Env + Files + Input + Print>(rt: &R) -> io::Result<()> {
-    for i in 1..usize::MAX {
-        if !inputs::is_there(rt, i) {
-            break;
-        }
-        drive_file(rt, i)?;
-    }
-    Ok(())
-}
 
 fn main(rt: HostRuntime) -> io::Result<()> {
-    if inputs::is_there(&rt, 1) {
-        return drive_files(&rt);
-    }
-    logrun_core::drive(&mut rt.reader(), &mut io::writer(&rt))
+    inputs::for_each(
+        &rt,
+        |source| logrun_core::drive(source, &mut io::writer(&rt)),
+    )
 }

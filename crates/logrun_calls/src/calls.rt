@@ -13,12 +13,8 @@ fn all_or_none(k: usize) -> usize {
     if k < metadata::LENGTH { 0 } else { k }
 }
 
-// What only looks leaves the state.
-pub(crate) fn looked(log: Log, number: u8) -> Answer {
-    Answer { number, log }
-}
-
-// The call with its payload, its store cut after k bytes.
+// The call with its payload, its store cut after k bytes. What only looks leaves the state. An arm for each call, since they differ in what
+// they take.
 fn call_cut(log: Log, image: &mut [u8], payload: &[u8], call: Call, k: usize) -> Answer {
     let whole = all_or_none(k);
     match call {
@@ -34,8 +30,14 @@ fn call_cut(log: Log, image: &mut [u8], payload: &[u8], call: Call, k: usize) ->
         Call::Tail(t) => log.tail_start_cut(image, Lsn(t), whole),
         Call::TailFinish => log.tail_finish_cut(image, k),
         Call::Close => log.close_cut(image, whole),
-        Call::Read(x) => looked(log, log.read(image, Lsn(x)).number),
-        Call::Counts => looked(log, log.counts().number),
+        Call::Read(x) => Answer {
+            number: log.read(image, Lsn(x)).number,
+            log,
+        },
+        Call::Counts => Answer {
+            number: log.counts().number,
+            log,
+        },
     }
 }
 

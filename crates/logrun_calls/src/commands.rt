@@ -13,14 +13,9 @@ pub fn zero_log() -> Log {
 
 // Past the image's end nothing is set.
 fn poke(image: &mut [u8], offset: usize, byte: u8) {
-    if offset < image.len() {
-        image[offset] = byte;
+    if let Some(at) = image.get_mut(offset) {
+        *at = byte;
     }
-}
-
-// The state is lost, whatever the call answered.
-fn lost(done: Answer) -> Answer {
-    calls::looked(zero_log(), done.number)
 }
 
 // What a command does to the state and the image, whose length it keeps. The number is that of a call, and the image's length lets the
@@ -32,11 +27,18 @@ pub fn performed(log: Log, image: &mut [u8], line: &[u8], command: Command) -> A
     match command {
         Command::Create(e, s) => Log::create(image, e, s),
         Command::Do(call) => calls::called(log, image, line, call, whole),
-        Command::Cut(k, call) => lost(calls::called(log, image, line, call, k as usize)),
+        // The state is lost, whatever the call answered.
+        Command::Cut(k, call) => Answer {
+            log: zero_log(),
+            ..calls::called(log, image, line, call, k as usize)
+        },
         Command::Poke(offset, byte) => {
             poke(image, offset as usize, byte);
-            calls::looked(log, 0)
+            Answer { number: 0, log }
         }
-        _ => calls::looked(settings::set(log, command), 0),
+        _ => Answer {
+            number: 0,
+            log: settings::set(log, command),
+        },
     }
 }

@@ -5,5 +5,5 @@
 mod output;
 mod show;
 
-pub use output::{field, flush, put};
-pub use show::{at_most, hex, state};
+pub use output::Output;
+pub use show::{hex, state};

@@ -1,59 +1,73 @@
 // Output, collected: it is written when no more fits, and before input is waited for.
-ghost use Rattle.std.specs.Prelude.{◌≡◌, ◌+◌, ◌≤◌, length, IfOk};
+ghost use Rattle.std.specs.Prelude.{◌≤◌};
 
 use std::io;
 use std::io::Write;
 
-// What is collected, the first `at` bytes, is written; nothing is left.
-pub fn flush<W: Write>(to: &mut W, out: &[u8], at: usize) -> io::Result<usize>
-    requires { at ≤ length out.now }
-    ensures { IfOk result (λ end. end ≡ 0) }
-{
-    to.write_all(&out[..at])?;
-    to.flush()?;
-    Ok(0)
+const ROOM: usize = 65536;
+
+// The first `filled` bytes of the buffer, which is on no heap, wait to be written.
+#[derive(Drop)]
+pub struct Output<W> {
+    to: W,
+    buffer: [u8; ROOM],
+    filled: usize,
+    ghost fits: { filled ≤ 65536 },
 }
 
-// Where n more bytes go: behind the first `at`, or at the front once those are written.
-fn room<W: Write>(to: &mut W, out: &[u8], at: usize, n: usize) -> io::Result<usize>
-    requires { at ≤ length out.now }
-    ensures { IfOk result (λ end. (end ≤ length out.now) × (n ≤ length out.now → end + n ≤ length out.now)) }
-{
-    if out.len() - at < n {
-        return flush(to, out, at);
+impl<W: Write> Output<W> {
+    ghost use Rattle.std.specs.Prelude.{◌≡◌, []};
+    ghost use Rattle.logrun_show.specs.Held.{waiting};
+
+    pub fn new(to: W) -> Output<W>
+        ensures writer { result.to ≡ to }
+        ensures empty { waiting result ≡ [] }
+    {
+        Output {
+            to,
+            buffer: [0; ROOM],
+            filled: 0,
+        }
     }
-    Ok(at)
 }
 
-// Bytes behind the first `at`; where they end. What is longer than the buffer goes straight out.
-pub fn put<W: Write>(to: &mut W, out: &mut [u8], at: usize, bytes: &[u8]) -> io::Result<usize>
-    requires { at ≤ length out.old }
-    ensures { IfOk result (λ end. end ≤ length out.new) }
-{
-    let n = bytes.len();
-    let from = room(to, out, at, n)?;
-    if out.len() < n {
-        to.write_all(bytes)?;
-        return Ok(from);
+impl<W: Write> Write for Output<W> {
+    ghost use Rattle.std.specs.Prelude.{◌≡◌, [], length, IfOk, OnOk};
+    ghost use Rattle.std.specs.Io.KnownBytes.{Keeps, Appends};
+    ghost use Rattle.logrun_show.specs.Held.{waiting, held};
+
+    // All of it is taken.
+    fn write(&mut self, bytes: &[u8]) -> io::Result<usize>
+        ensures all { IfOk result (λ n. n ≡ length bytes.now) }
+        ensures appends { OnOk result (Appends (held W.contents self.old) (held W.contents self.new) bytes.now) }
+    {
+        self.write_all(bytes)?;
+        Ok(bytes.len())
     }
-    numbers::copy(out, from, bytes);
-    Ok(from + n)
-}
 
-pub fn decimal<W: Write>(to: &mut W, out: &mut [u8], at: usize, n: u64) -> io::Result<usize>
-    requires { at ≤ length out.old }
-    ensures { IfOk result (λ end. end ≤ length out.new) }
-{
-    let mut digits = [0u8; 20];
-    let count = text::put_decimal(&mut digits, 0, n);
-    put(to, out, at, &digits[..count])
-}
+    // What is collected is written; nothing is left.
+    fn flush(&mut self) -> io::Result<()>
+        ensures empty { OnOk result (waiting self.new ≡ []) }
+        ensures keeps { OnOk result (Keeps (held W.contents self.old) (held W.contents self.new)) }
+    {
+        self.to.write_all(&self.buffer[..self.filled])?;
+        self.filled = 0;
+        self.to.flush()
+    }
 
-// A space, then a number.
-pub fn field<W: Write>(to: &mut W, out: &mut [u8], at: usize, n: u64) -> io::Result<usize>
-    requires { at ≤ length out.old }
-    ensures { IfOk result (λ end. end ≤ length out.new) }
-{
-    let end = put(to, out, at, b" ")?;
-    decimal(to, out, end, n)
+    // What is longer than the buffer goes straight out.
+    fn write_all(&mut self, bytes: &[u8]) -> io::Result<()>
+        ensures appends { OnOk result (Appends (held W.contents self.old) (held W.contents self.new) bytes.now) }
+    {
+        if ROOM - self.filled < bytes.len() {
+            self.flush()?;
+        }
+        if ROOM - self.filled < bytes.len() {
+            return self.to.write_all(bytes);
+        }
+        let end = self.filled + bytes.len();
+        self.buffer[self.filled..end].copy_from_slice(bytes);
+        self.filled = end;
+        Ok(())
+    }
 }

@@ -1,5 +1,6 @@
 -- The mirror of a state: the same fields, the mode as a byte; and what a byte that is no mode is answered.
-use Rattle.std.specs.Prelude.{ℕ, Bool, ltb}
+use Rattle.std.specs.Prelude.{ℕ, Bool, ltb, ◌≡◌, length, Result, IfOk, is_ok}
+use Rattle.table.specs.declared.modes.UnknownMode.{UnknownMode}
 use Rattle.refusals.specs.Order.{must, first_of}
 use Rattle.refusals.specs.Refusals.{SIZE, MALFORMED}
 use Rattle.table.specs.Next.{mode_no, mode_of}
@@ -29,6 +30,12 @@ log_of state = record {
   n = state.n;
   roll_slot = state.roll_slot;
 }
+
+-- a state with a known mode has a log, whose arrays have 64 entries
+abbrev pub Logs : State → Result Log UnknownMode → Type 0
+Logs state r =
+    (is_ok r ≡ known state.mode)
+    × IfOk r (λ log. (log ≡ log_of state) × (length log.slots ≡ 64) × (length log.starts ≡ 64))
 
 unfoldable pub state_of : Log → State
 state_of g = record {

@@ -27,8 +27,8 @@ pub fn clean_two(rt: &impl Print) -> io::Result<()> {
     print::two(
         rt,
         "11 create, then open of clean 2",
-        made.number as u64,
-        found.number as u64,
+        made.number,
+        u32::from(found.number),
     )
 }
 
@@ -39,8 +39,8 @@ pub fn listed(rt: &impl Print) -> io::Result<()> {
     print::two(
         rt,
         "12 create, head; then its listing",
-        made.number as u64,
-        made.log.0.head.0 as u64,
+        made.number,
+        made.log.0.head.0,
     )?;
     loglist_core::print_image(&mut io::writer(rt), &image)
 }

@@ -9,6 +9,6 @@ pub fn bytes(rt: &impl Print, name: &str, bytes: &[u8]) -> io::Result<()> {
     println!(rt)
 }
 
-pub fn two(rt: &impl Print, name: &str, a: u64, b: u64) -> io::Result<()> {
+pub fn two(rt: &impl Print, name: &str, a: u8, b: u32) -> io::Result<()> {
     println!(rt; "{name} {a} {b}")
 }

@@ -17,40 +17,27 @@ pub fn running(image: &mut [u8]) -> Log {
 }
 
 // A call's number, and one field of the state that it left.
-fn show_place(rt: &impl Print, name: &str, a: Answer) -> io::Result<()> {
-    print::two(rt, name, a.number as u64, a.log.0.place as u64)
-}
-
-fn show_head(rt: &impl Print, name: &str, a: Answer) -> io::Result<()> {
-    print::two(rt, name, a.number as u64, a.log.0.head.0 as u64)
-}
-
-fn show_tail(rt: &impl Print, name: &str, a: Answer) -> io::Result<()> {
-    print::two(rt, name, a.number as u64, a.log.0.tail.0 as u64)
-}
-
-fn show_version(rt: &impl Print, name: &str, a: Answer) -> io::Result<()> {
-    print::two(rt, name, a.number as u64, a.log.0.version.0 as u64)
-}
-
-fn show_roll_slot(rt: &impl Print, name: &str, a: Answer) -> io::Result<()> {
-    let slot = a.log.0.roll_slot;
-    print::two(rt, name, a.number as u64, slot.0 as u64)
+fn show<F: Fn(State) -> u32>(rt: &impl Print, name: &str, a: Answer, field: F) -> io::Result<()>
+    requires { F.IsAlwaysCallable field }
+{
+    print::two(rt, name, a.number, field(a.log.0))
 }
 
 // M is 50: 50 bytes fill an empty extent, 51 are too long.
 pub fn longest(rt: &impl Print) -> io::Result<()> {
     let mut image = [0u8; 212];
     let log = running(&mut image);
-    show_place(
+    show(
         rt,
         "3 append of 51 bytes, write place",
         log.append(&mut image, &[0u8; 51]),
+        |log| log.place,
     )?;
-    show_place(
+    show(
         rt,
         "3 append of 50 bytes, write place",
         log.append(&mut image, &[0u8; 50]),
+        |log| log.place,
     )
 }
 
@@ -58,15 +45,17 @@ pub fn longest(rt: &impl Print) -> io::Result<()> {
 pub fn would_fit(rt: &impl Print) -> io::Result<()> {
     let mut image = [0u8; 212];
     let log = running(&mut image).append(&mut image, &[0u8; 41]).log;
-    show_place(
+    show(
         rt,
         "4 roll begin of 0 bytes, write place",
         log.roll_begin(&mut image, 0),
+        |log| log.place,
     )?;
-    show_place(
+    show(
         rt,
         "4 append of 0 bytes, write place",
         log.append(&mut image, b""),
+        |log| log.place,
     )
 }
 
@@ -74,15 +63,17 @@ pub fn would_fit(rt: &impl Print) -> io::Result<()> {
 pub fn full(rt: &impl Print) -> io::Result<()> {
     let mut image = [0u8; 212];
     let log = running(&mut image).append(&mut image, &[0u8; 42]).log;
-    show_place(
+    show(
         rt,
         "5 append of 0 bytes, write place",
         log.append(&mut image, b""),
+        |log| log.place,
     )?;
-    show_roll_slot(
+    show(
         rt,
         "5 roll begin of 0 bytes, slot",
         log.roll_begin(&mut image, 0),
+        |log| u32::from(log.roll_slot.0),
     )
 }
 
@@ -91,7 +82,7 @@ fn torn_after(rt: &impl Print, name: &str, k: usize) -> io::Result<()> {
     let mut image = [0u8; 212];
     let log = running(&mut image);
     log.append_cut(&mut image, b"AB", k);
-    show_tail(rt, name, Log::open(&image))
+    show(rt, name, Log::open(&image), |log| log.tail.0)
 }
 
 pub fn torn(rt: &impl Print) -> io::Result<()> {
@@ -103,13 +94,24 @@ pub fn torn(rt: &impl Print) -> io::Result<()> {
 pub fn withdrawn(rt: &impl Print) -> io::Result<()> {
     let mut image = [0u8; 212];
     let log = running(&mut image).append(&mut image, b"AB").log;
-    show_tail(
+    show(
         rt,
         "7 after sample 2, tail start 1, tail",
         log.tail_start(&mut image, Lsn(1)),
+        |log| log.tail.0,
     )?;
-    show_tail(rt, "7 power cut, open, tail", Log::open(&image))?;
-    show_version(rt, "7 power cut, open, version", Log::open(&image))
+    show(
+        rt,
+        "7 power cut, open, tail",
+        Log::open(&image),
+        |log| log.tail.0,
+    )?;
+    show(
+        rt,
+        "7 power cut, open, version",
+        Log::open(&image),
+        |log| u32::from(log.version.0),
+    )
 }
 
 // Head 1, tail 3.
@@ -118,36 +120,24 @@ fn two_records(image: &mut [u8]) -> Log {
     log.append(image, b"CD").log
 }
 
-fn head_to(rt: &impl Print, name: &str, h: u32) -> io::Result<()> {
-    let mut image = [0u8; 212];
-    show_head(
-        rt,
-        name,
-        two_records(&mut image).head_start(&mut image, Lsn(h)),
-    )
-}
-
 pub fn head(rt: &impl Print) -> io::Result<()> {
-    head_to(rt, "8 head start 1, head", 1)?;
-    head_to(rt, "8 head start 2, head", 2)?;
-    head_to(rt, "8 head start 3, head", 3)?;
-    head_to(rt, "8 head start 4, head", 4)
-}
-
-fn tail_to(rt: &impl Print, name: &str, t: u32) -> io::Result<()> {
-    let mut image = [0u8; 212];
-    show_tail(
-        rt,
-        name,
-        two_records(&mut image).tail_start(&mut image, Lsn(t)),
-    )
+    for h in 1..5 {
+        let mut image = [0u8; 212];
+        let moved = two_records(&mut image).head_start(&mut image, Lsn(h));
+        let head = moved.log.0.head.0;
+        println!(rt; "8 head start {h}, head {} {head}", moved.number)?;
+    }
+    Ok(())
 }
 
 pub fn tail(rt: &impl Print) -> io::Result<()> {
-    tail_to(rt, "9 tail start 0, tail", 0)?;
-    tail_to(rt, "9 tail start 1, tail", 1)?;
-    tail_to(rt, "9 tail start 2, tail", 2)?;
-    tail_to(rt, "9 tail start 3, tail", 3)
+    for t in 0..4 {
+        let mut image = [0u8; 212];
+        let moved = two_records(&mut image).tail_start(&mut image, Lsn(t));
+        let tail = moved.log.0.tail.0;
+        println!(rt; "9 tail start {t}, tail {} {tail}", moved.number)?;
+    }
+    Ok(())
 }
 
 // A log at the last LSN but one: the state says so.
@@ -163,10 +153,16 @@ pub fn last_lsn(rt: &impl Print) -> io::Result<()> {
         ..state
     };
     let done = Log(near).append(&mut image, b"AB");
-    show_tail(rt, "10 append at tail 4294967294, tail", done)?;
-    show_tail(
+    show(
+        rt,
+        "10 append at tail 4294967294, tail",
+        done,
+        |log| log.tail.0,
+    )?;
+    show(
         rt,
         "10 the next append, tail",
         done.log.append(&mut image, b"CD"),
+        |log| log.tail.0,
     )
 }

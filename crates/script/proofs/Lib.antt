@@ -1,4 +1,3 @@
 pub mod Names
-pub mod Asking
 pub mod Saying
 pub mod Samples

@@ -2,106 +2,108 @@
 use Prim.Native.String.{String}
 use mathlib.Core.Path.{◌≡◌, refl}
 use mathlib.Core.List.{List, [], ◌∷◌, map}
+use Rattle.std.specs.Prelude.{Option, Some, None}
+use Rattle.table.specs.declared.Mode.TheVariants.{WrittenH}
 use Rattle.text.specs.Words.{bytes, same, words}
 use Rattle.text.specs.Numeral.{digits, begins, value_from, number_of}
 use Rattle.text.specs.Hex.{pairs, is_payload, bytes_of}
 use Rattle.script.specs.declared.Call.{Call}
 use Rattle.script.specs.declared.Setting.{Setting}
 use Rattle.script.specs.declared.Command.{Command}
-use Rattle.script.specs.declared.Command.TheVariants.{Bad, New, Create, Do, Cut, Poke, Set, SetSlot, SetStart, Dump}
+use Rattle.script.specs.declared.Command.TheVariants.{New, Create, Do, Cut, Poke, Set, SetSlot, SetStart, Dump}
 use Rattle.script.specs.Grammar.{lookup, plain_call, argument_call, cut_command, set_command, pair_command, command_of, line_command, line_payload}
 
 -- ---- lines
 
-abbrev says : List (String × Command) → List Command
+abbrev says : List (String × Option Command) → List (Option Command)
 says samples = map (λ s. line_command (bytes s.0)) samples
 
-abbrev said : List (String × Command) → List Command
+abbrev said : List (String × Option Command) → List (Option Command)
 said samples = map (λ s. s.1) samples
 
-abbrev calls : List (String × Command)
+abbrev calls : List (String × Option Command)
 calls =
-    ("new 65536", New 65536)
-    ∷ ("create 64 2", Create 64 2)
-    ∷ ("open", Do Call.Open)
-    ∷ ("wipe", Do Call.Wipe)
-    ∷ ("mark", Do Call.Mark)
-    ∷ ("append 4142", Do Call.Append)
-    ∷ ("append -", Do Call.Append)
-    ∷ ("begin 0", Do (Call.Begin 0))
-    ∷ ("write ff", Do Call.Write)
-    ∷ ("list", Do Call.List)
-    ∷ ("head 4294967295", Do (Call.Head 4294967295))
-    ∷ ("headfinish", Do Call.HeadFinish)
-    ∷ ("tail 1", Do (Call.Tail 1))
-    ∷ ("tailfinish", Do Call.TailFinish)
-    ∷ ("close", Do Call.Close)
-    ∷ ("read 7", Do (Call.Read 7))
-    ∷ ("counts", Do Call.Counts)
-    ∷ ("cut 10 append 00", Cut 10 Call.Append)
-    ∷ ("cut 83 mark", Cut 83 Call.Mark)
+    ("new 65536", Some (New 65536))
+    ∷ ("create 64 2", Some (Create 64 2))
+    ∷ ("open", Some (Do Call.Open))
+    ∷ ("wipe", Some (Do Call.Wipe))
+    ∷ ("mark", Some (Do Call.Mark))
+    ∷ ("append 4142", Some (Do Call.Append))
+    ∷ ("append -", Some (Do Call.Append))
+    ∷ ("begin 0", Some (Do (Call.Begin 0)))
+    ∷ ("write ff", Some (Do Call.Write))
+    ∷ ("list", Some (Do Call.List))
+    ∷ ("head 4294967295", Some (Do (Call.Head 4294967295)))
+    ∷ ("headfinish", Some (Do Call.HeadFinish))
+    ∷ ("tail 1", Some (Do (Call.Tail 1)))
+    ∷ ("tailfinish", Some (Do Call.TailFinish))
+    ∷ ("close", Some (Do Call.Close))
+    ∷ ("read 7", Some (Do (Call.Read 7)))
+    ∷ ("counts", Some (Do Call.Counts))
+    ∷ ("cut 10 append 00", Some (Cut 10 Call.Append))
+    ∷ ("cut 83 mark", Some (Cut 83 Call.Mark))
     ∷ []
 
 calls_said : says calls ≡ said calls
 unfolding same words digits begins value_from number_of pairs is_payload lookup plain_call argument_call cut_command set_command pair_command command_of line_command
 calls_said = refl
 
-abbrev settings : List (String × Command)
+abbrev settings : List (String × Option Command)
 settings =
-    ("poke 4294967295 255", Poke 4294967295 255)
-    ∷ ("set mode 9", Set (Setting.Mode 9))
-    ∷ ("set E 64", Set (Setting.E 64))
-    ∷ ("set S 255", Set (Setting.S 255))
-    ∷ ("set n 1", Set (Setting.N 1))
-    ∷ ("set head 2", Set (Setting.Head 2))
-    ∷ ("set tail 3", Set (Setting.Tail 3))
-    ∷ ("set last 4", Set (Setting.Last 4))
-    ∷ ("set version 65535", Set (Setting.Version 65535))
-    ∷ ("set place 5", Set (Setting.Place 5))
-    ∷ ("set pending 18446744073709551615", Set (Setting.Pending 18446744073709551615))
-    ∷ ("set rollslot 6", Set (Setting.RollSlot 6))
-    ∷ ("set rolllen 7", Set (Setting.RollLen 7))
-    ∷ ("setslot 63 255", SetSlot 63 255)
-    ∷ ("setstart 63 4294967295", SetStart 63 4294967295)
-    ∷ ("dump", Dump)
+    ("poke 4294967295 255", Some (Poke 4294967295 255))
+    ∷ ("set mode 9", Some (Set (Setting.Mode WrittenH)))
+    ∷ ("set E 64", Some (Set (Setting.E 64)))
+    ∷ ("set S 255", Some (Set (Setting.S 255)))
+    ∷ ("set n 1", Some (Set (Setting.N 1)))
+    ∷ ("set head 2", Some (Set (Setting.Head 2)))
+    ∷ ("set tail 3", Some (Set (Setting.Tail 3)))
+    ∷ ("set last 4", Some (Set (Setting.Last 4)))
+    ∷ ("set version 65535", Some (Set (Setting.Version 65535)))
+    ∷ ("set place 5", Some (Set (Setting.Place 5)))
+    ∷ ("set pending 18446744073709551615", Some (Set (Setting.Pending 18446744073709551615)))
+    ∷ ("set rollslot 6", Some (Set (Setting.RollSlot 6)))
+    ∷ ("set rolllen 7", Some (Set (Setting.RollLen 7)))
+    ∷ ("setslot 63 255", Some (SetSlot 63 255))
+    ∷ ("setstart 63 4294967295", Some (SetStart 63 4294967295))
+    ∷ ("dump", Some Dump)
     ∷ []
 
 settings_said : says settings ≡ said settings
 unfolding same words digits begins value_from number_of pairs is_payload lookup plain_call argument_call cut_command set_command pair_command command_of line_command
 settings_said = refl
 
-abbrev refused : List (String × Command)
+abbrev refused : List (String × Option Command)
 refused =
-    ("", Bad)
-    ∷ (" ", Bad)
-    ∷ ("open ", Bad)
-    ∷ (" open", Bad)
-    ∷ ("Open", Bad)
-    ∷ ("opens", Bad)
-    ∷ ("append", Bad)
-    ∷ ("append ", Bad)
-    ∷ ("append 414", Bad)
-    ∷ ("append 4A", Bad)
-    ∷ ("append  4142", Bad)
-    ∷ ("append 41 42", Bad)
-    ∷ ("begin 01", Bad)
-    ∷ ("begin -1", Bad)
-    ∷ ("begin 4294967296", Bad)
-    ∷ ("new 65537", Bad)
-    ∷ ("create 64 256", Bad)
-    ∷ ("poke 0 256", Bad)
-    ∷ ("set mode 10", Bad)
-    ∷ ("set version 65536", Bad)
-    ∷ ("set pending 18446744073709551616", Bad)
-    ∷ ("set e 64", Bad)
-    ∷ ("setslot 64 0", Bad)
-    ∷ ("setstart 64 0", Bad)
-    ∷ ("cut 1", Bad)
-    ∷ ("cut 1 dump", Bad)
-    ∷ ("cut 1 new 212", Bad)
-    ∷ ("cut 1 create 64 2", Bad)
-    ∷ ("cut 1 cut 1 open", Bad)
-    ∷ ("cut x open", Bad)
+    ("", None)
+    ∷ (" ", None)
+    ∷ ("open ", None)
+    ∷ (" open", None)
+    ∷ ("Open", None)
+    ∷ ("opens", None)
+    ∷ ("append", None)
+    ∷ ("append ", None)
+    ∷ ("append 414", None)
+    ∷ ("append 4A", None)
+    ∷ ("append  4142", None)
+    ∷ ("append 41 42", None)
+    ∷ ("begin 01", None)
+    ∷ ("begin -1", None)
+    ∷ ("begin 4294967296", None)
+    ∷ ("new 65537", None)
+    ∷ ("create 64 256", None)
+    ∷ ("poke 0 256", None)
+    ∷ ("set mode 10", None)
+    ∷ ("set version 65536", None)
+    ∷ ("set pending 18446744073709551616", None)
+    ∷ ("set e 64", None)
+    ∷ ("setslot 64 0", None)
+    ∷ ("setstart 64 0", None)
+    ∷ ("cut 1", None)
+    ∷ ("cut 1 dump", None)
+    ∷ ("cut 1 new 212", None)
+    ∷ ("cut 1 create 64 2", None)
+    ∷ ("cut 1 cut 1 open", None)
+    ∷ ("cut x open", None)
     ∷ []
 
 refused_said : says refused ≡ said refused

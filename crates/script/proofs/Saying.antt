@@ -1,94 +1,11 @@
 -- What a line of so many words says.
-use Prim.Native.Nat.{ℕ, zero, suc, ◌≤◌}
-use mathlib.Core.Path.{◌≡◌, refl, ap}
-use mathlib.Core.Bool.{true, false}
-use mathlib.Core.List.{List, [], ◌∷◌}
-use native.Mathlib.Omega.{arith}
-use lib.ListN.{length, get_or}
-use Rattle.text.specs.Words.{bytes, same, words, word_at}
-use Rattle.text.specs.Numeral.{number_of}
-use Rattle.text.specs.declared.Parsed.{Parsed}
-use Rattle.script.specs.declared.Call.{Call}
-use Rattle.script.specs.declared.Asked.{Asked}
-use Rattle.script.specs.declared.Asked.TheVariants.{For, Nothing}
-use Rattle.script.specs.declared.Command.TheVariants.{Bad, New, Do, Cut, Dump}
-use Rattle.script.specs.Grammar.{most, plain_call, argument_call, cut_command, set_command, pair_command, command_of, line_command}
-
--- ---- a cut
-
-module _ (k : List ℕ) (c : Asked) where
-  pub cut_uncounted : number_of most k ≡ Parsed.Bad → cut_command k c ≡ Bad
-  unfolding cut_command
-  cut_uncounted e = rw e
-
-  pub cut_nothing : (n : ℕ) → number_of most k ≡ Parsed.Number n → c ≡ Nothing → cut_command k c ≡ Bad
-  unfolding cut_command
-  cut_nothing n e q = rw (e, q)
-
-  pub cut_call : (n : ℕ) (call : Call) → number_of most k ≡ Parsed.Number n → c ≡ For call → cut_command k c ≡ Cut n call
-  unfolding cut_command
-  cut_call n call e q = rw (e, q)
-
--- ---- one word
-
-module _ (w : List ℕ) where
-  pub one_call : (c : Call) → plain_call w ≡ For c → command_of (w ∷ []) ≡ Do c
-  unfolding command_of
-  one_call c e = rw e
-
-  pub one_dump : plain_call w ≡ Nothing → same (bytes "dump") w ≡ true → command_of (w ∷ []) ≡ Dump
-  unfolding command_of
-  one_dump e t = rw (e, t)
-
-  pub one_bad : plain_call w ≡ Nothing → same (bytes "dump") w ≡ false → command_of (w ∷ []) ≡ Bad
-  unfolding command_of
-  one_bad e t = rw (e, t)
-
--- ---- two words
-
-module _ (w a : List ℕ) where
-  pub two_call : (c : Call) → argument_call w a ≡ For c → command_of (w ∷ a ∷ []) ≡ Do c
-  unfolding command_of
-  two_call c e = rw e
-
-  module _ (e : argument_call w a ≡ Nothing) where
-    pub two_other : same (bytes "new") w ≡ false → command_of (w ∷ a ∷ []) ≡ Bad
-    unfolding command_of
-    two_other t = rw (e, t)
-
-    pub two_new : (n : ℕ) → same (bytes "new") w ≡ true → number_of 65536 a ≡ Parsed.Number n → command_of (w ∷ a ∷ []) ≡ New n
-    unfolding command_of
-    two_new n t q = rw (e, t, q)
-
-    pub two_bad : same (bytes "new") w ≡ true → number_of 65536 a ≡ Parsed.Bad → command_of (w ∷ a ∷ []) ≡ Bad
-    unfolding command_of
-    two_bad t q = rw (e, t, q)
-
--- ---- three and four words
-
-module _ (w a b : List ℕ) where
-  pub three_set : same (bytes "set") w ≡ true → command_of (w ∷ a ∷ b ∷ []) ≡ set_command a b
-  unfolding command_of
-  three_set t = rw t
-
-  pub three_cut : same (bytes "set") w ≡ false → same (bytes "cut") w ≡ true → command_of (w ∷ a ∷ b ∷ []) ≡ cut_command a (plain_call b)
-  unfolding command_of
-  three_cut t u = rw (t, u)
-
-  pub three_pair : same (bytes "set") w ≡ false → same (bytes "cut") w ≡ false → command_of (w ∷ a ∷ b ∷ []) ≡ pair_command w a b
-  unfolding command_of
-  three_pair t u = rw (t, u)
-
-  module _ (c : List ℕ) where
-    pub four_cut : same (bytes "cut") w ≡ true → command_of (w ∷ a ∷ b ∷ c ∷ []) ≡ cut_command a (argument_call b c)
-    unfolding command_of
-    four_cut t = rw t
-
-    pub four_bad : same (bytes "cut") w ≡ false → command_of (w ∷ a ∷ b ∷ c ∷ []) ≡ Bad
-    unfolding command_of
-    four_bad t = rw t
-
--- ---- as many words as there are
+use Rattle.std.proofs.Common.{◌≡◌, ◌≤◌, ℕ, zero, suc, None, List, [], ◌∷◌, length, get_or, refl, sym, ap, ◌∙◌, arith}
+use Rattle.text.specs.Words.{words, word_at}
+use Rattle.text.proofs.Nibbles.{bytes_length}
+use Rattle.text.proofs.Parting.{some_word}
+use Rattle.script.specs.Names.{name_of}
+use Rattle.script.specs.Grammar.{command_of, line_command}
+use Rattle.script.proofs.Names.{command_name}
 
 abbrev listed : (ℕ → List ℕ) → ℕ → List (List ℕ)
 listed f zero = []
@@ -100,19 +17,43 @@ all_listed [] (suc n) e = absurd (omega arith)
 all_listed (w ∷ ws) zero e = absurd (omega arith)
 all_listed (w ∷ ws) (suc n) e = ap (λ (r : List (List ℕ)). w ∷ r) (all_listed ws n (omega arith))
 
-pub line_of : (l : List ℕ) (n : ℕ) → length (words l) ≡ n → line_command l ≡ command_of (listed (word_at l) n)
-unfolding line_command
-line_of l n e = ap command_of (all_listed (words l) n e)
+module _ (l : List ℕ) where
+  line_of :
+      (n : ℕ)
+      → length (words l) ≡ suc n
+      → line_command l ≡ command_of (name_of (word_at l 0) ∷ listed (λ i. word_at l (suc i)) n)
+  unfolding line_command
+  line_of n e =
+      ap command_of (all_listed (words l) (suc n) e)
+      ∙ sym (command_name (word_at l 0) (listed (λ i. word_at l (suc i)) n))
 
-many_bad : (ws : List (List ℕ)) → 5 ≤ length ws → command_of ws ≡ Bad
+  pub line_one : length (words l) ≡ 1 → line_command l ≡ command_of (name_of (word_at l 0) ∷ [])
+  line_one e = line_of 0 e
+
+  pub line_two : length (words l) ≡ 2 → line_command l ≡ command_of (name_of (word_at l 0) ∷ word_at l 1 ∷ [])
+  line_two e = line_of 1 e
+
+  pub line_three : length (words l) ≡ 3 → line_command l ≡ command_of (name_of (word_at l 0) ∷ word_at l 1 ∷ word_at l 2 ∷ [])
+  line_three e = line_of 2 e
+
+  pub line_four :
+      length (words l) ≡ 4
+      → line_command l ≡ command_of (name_of (word_at l 0) ∷ word_at l 1 ∷ word_at l 2 ∷ word_at l 3 ∷ [])
+  line_four e = line_of 3 e
+
+many_none : (ws : List (List ℕ)) → 5 ≤ length ws → command_of ws ≡ None
 unfolding command_of
-many_bad [] h = absurd (omega arith)
-many_bad (w ∷ []) h = absurd (omega arith)
-many_bad (w ∷ a ∷ []) h = absurd (omega arith)
-many_bad (w ∷ a ∷ b ∷ []) h = absurd (omega arith)
-many_bad (w ∷ a ∷ b ∷ c ∷ []) h = absurd (omega arith)
-many_bad (w ∷ a ∷ b ∷ c ∷ d ∷ ws) h = refl
+many_none [] h = absurd (omega arith)
+many_none (w ∷ []) h = absurd (omega arith)
+many_none (w ∷ a ∷ []) h = absurd (omega arith)
+many_none (w ∷ a ∷ b ∷ []) h = absurd (omega arith)
+many_none (w ∷ a ∷ b ∷ c ∷ []) h = absurd (omega arith)
+many_none (w ∷ a ∷ b ∷ c ∷ d ∷ ws) h = refl
 
-pub line_bad : (l : List ℕ) → 5 ≤ length (words l) → line_command l ≡ Bad
+pub line_many : (l : List ℕ) → 5 ≤ length (words l) → line_command l ≡ None
 unfolding line_command
-line_bad l h = many_bad (words l) h
+line_many l h = many_none (words l) h
+
+pub ruleset lines = (line_one, line_two, line_three, line_four, line_many, some_word)
+
+pub ruleset payloads = (some_word, bytes_length)

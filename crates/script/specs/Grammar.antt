@@ -1,16 +1,14 @@
 -- The commands: a line's words, and what they say.
-use Rattle.std.specs.Prelude.{ℕ, ◌-◌, cond, List, [], ◌∷◌, map, length, get_or}
+use Rattle.std.specs.Prelude.{ℕ, ◌-◌, cond, List, [], ◌∷◌, map, length, Option, Some, None}
 use Prim.Native.String.{String}
 use Rattle.text.specs.Words.{bytes, same, words, word_at}
 use Rattle.text.specs.Numeral.{number_of}
 use Rattle.text.specs.Hex.{is_payload, bytes_of}
-use Rattle.text.specs.declared.Parsed.{Parsed}
+use Rattle.table.specs.Next.{mode_of}
 use Rattle.script.specs.declared.Call.{Call}
-use Rattle.script.specs.declared.Asked.{Asked}
-use Rattle.script.specs.declared.Asked.TheVariants.{For, Nothing}
 use Rattle.script.specs.declared.Setting.{Setting}
 use Rattle.script.specs.declared.Command.{Command}
-use Rattle.script.specs.declared.Command.TheVariants.{Bad, New, Create, Do, Cut, Poke, Set, SetSlot, SetStart, Dump}
+use Rattle.script.specs.declared.Command.TheVariants.{New, Create, Do, Cut, Poke, Set, SetSlot, SetStart, Dump}
 
 -- ---- arguments
 
@@ -18,13 +16,13 @@ use Rattle.script.specs.declared.Command.TheVariants.{Bad, New, Create, Do, Cut,
 abbrev pub most : ℕ
 most = 4294967295
 
-abbrev pub with_number : {A : Type 0} → Parsed → (ℕ → A) → A → A
-with_number (Parsed.Number v) f bad = f v
-with_number Parsed.Bad f bad = bad
+abbrev pub with_number : {A : Type 0} → Option ℕ → (ℕ → A) → A → A
+with_number (Some v) f bad = f v
+with_number None f bad = bad
 
-abbrev pub asked : {A : Type 0} → Asked → (Call → A) → A → A
-asked (For c) f bad = f c
-asked Nothing f bad = bad
+abbrev pub asked : {A : Type 0} → Option Call → (Call → A) → A → A
+asked (Some c) f bad = f c
+asked None f bad = bad
 
 -- what stands beside a name
 abbrev pub Named : Type 0 → Type 0
@@ -36,43 +34,43 @@ lookup (e ∷ es) other w = cond (same e.0 w) e.1 (lookup es other w)
 
 -- ---- the calls that can be cut
 
-abbrev pub plain_calls : List (Named Asked)
+abbrev pub plain_calls : List (Named (Option Call))
 plain_calls =
-    (bytes "open", For Call.Open)
-    ∷ (bytes "wipe", For Call.Wipe)
-    ∷ (bytes "mark", For Call.Mark)
-    ∷ (bytes "list", For Call.List)
-    ∷ (bytes "headfinish", For Call.HeadFinish)
-    ∷ (bytes "tailfinish", For Call.TailFinish)
-    ∷ (bytes "close", For Call.Close)
-    ∷ (bytes "counts", For Call.Counts)
+    (bytes "open", Some Call.Open)
+    ∷ (bytes "wipe", Some Call.Wipe)
+    ∷ (bytes "mark", Some Call.Mark)
+    ∷ (bytes "list", Some Call.List)
+    ∷ (bytes "headfinish", Some Call.HeadFinish)
+    ∷ (bytes "tailfinish", Some Call.TailFinish)
+    ∷ (bytes "close", Some Call.Close)
+    ∷ (bytes "counts", Some Call.Counts)
     ∷ []
 
-abbrev pub payload_calls : List (Named Asked)
-payload_calls = (bytes "append", For Call.Append) ∷ (bytes "write", For Call.Write) ∷ []
+abbrev pub payload_calls : List (Named (Option Call))
+payload_calls = (bytes "append", Some Call.Append) ∷ (bytes "write", Some Call.Write) ∷ []
 
-abbrev pub number_calls : List (Named (ℕ → Asked))
+abbrev pub number_calls : List (Named (ℕ → Option Call))
 number_calls =
-    (bytes "begin", λ p. For (Call.Begin p))
-    ∷ (bytes "head", λ h. For (Call.Head h))
-    ∷ (bytes "tail", λ t. For (Call.Tail t))
-    ∷ (bytes "read", λ x. For (Call.Read x))
+    (bytes "begin", λ p. Some (Call.Begin p))
+    ∷ (bytes "head", λ h. Some (Call.Head h))
+    ∷ (bytes "tail", λ t. Some (Call.Tail t))
+    ∷ (bytes "read", λ x. Some (Call.Read x))
     ∷ []
 
-unfoldable pub plain_call : List ℕ → Asked
-plain_call w = lookup plain_calls Nothing w
+unfoldable pub plain_call : List ℕ → Option Call
+plain_call w = lookup plain_calls None w
 
 -- a call with one argument: a payload, or a number
-unfoldable pub argument_call : List ℕ → List ℕ → Asked
+unfoldable pub argument_call : List ℕ → List ℕ → Option Call
 argument_call w a =
-    asked (lookup payload_calls Nothing w)
-    (λ c. cond (is_payload a) (For c) Nothing)
-    (with_number (number_of most a) (lookup number_calls (λ v. Nothing) w) Nothing)
+    asked (lookup payload_calls None w)
+    (λ c. cond (is_payload a) (Some c) None)
+    (with_number (number_of most a) (lookup number_calls (λ v. None) w) None)
 
 -- ---- commands of two arguments
 
-unfoldable pub cut_command : List ℕ → Asked → Command
-cut_command k c = with_number (number_of most k) (λ n. asked c (Cut n) Bad) Bad
+unfoldable pub cut_command : List ℕ → Option Call → Option Command
+cut_command k c = with_number (number_of most k) (λ n. asked c (λ call. Some (Cut n call)) None) None
 
 -- a field of the state, and its largest number
 pub record Field : Type 0 where
@@ -85,7 +83,7 @@ field s n f = record { name = bytes s; bound = n; made = f }
 
 abbrev pub fields : List Field
 fields =
-    field "mode" 9 Setting.Mode
+    field "mode" 9 (λ k. Setting.Mode (mode_of k))
     ∷ field "E" most Setting.E
     ∷ field "S" 255 Setting.S
     ∷ field "n" 255 Setting.N
@@ -99,16 +97,12 @@ fields =
     ∷ field "rolllen" most Setting.RollLen
     ∷ []
 
--- field i of them
-abbrev pub field_at : ℕ → Field
-field_at i = get_or fields i (field "" 0 Setting.Mode)
-
 -- what a field's name and the word behind it say
-abbrev pub field_with : List ℕ → Field → Named Command
-field_with a f = (f.name, with_number (number_of f.bound a) (λ v. Set (f.made v)) Bad)
+abbrev pub field_with : List ℕ → Field → Named (Option Command)
+field_with a f = (f.name, with_number (number_of f.bound a) (λ v. Some (Set (f.made v))) None)
 
-unfoldable pub set_command : List ℕ → List ℕ → Command
-set_command w a = lookup (map (field_with a) fields) Bad w
+unfoldable pub set_command : List ℕ → List ℕ → Option Command
+set_command w a = lookup (map (field_with a) fields) None w
 
 -- a command of two numbers, and the largest of each
 pub record Pair : Type 0 where
@@ -123,30 +117,28 @@ pair s m n f = record { name = bytes s; bound₁ = m; bound₂ = n; made = f }
 abbrev pub pairs : List Pair
 pairs = pair "create" most 255 Create ∷ pair "poke" most 255 Poke ∷ pair "setslot" 63 255 SetSlot ∷ pair "setstart" 63 most SetStart ∷ []
 
-abbrev pub pair_at : ℕ → Pair
-pair_at i = get_or pairs i (pair "" 0 0 Create)
-
 -- what a pair's name and the two words behind it say
-abbrev pub pair_with : List ℕ → List ℕ → Pair → Named Command
+abbrev pub pair_with : List ℕ → List ℕ → Pair → Named (Option Command)
 pair_with a b p =
-    (p.name, with_number (number_of p.bound₁ a) (λ x. with_number (number_of p.bound₂ b) (p.made x) Bad) Bad)
+    (p.name, with_number (number_of p.bound₁ a) (λ x. with_number (number_of p.bound₂ b) (λ y. Some (p.made x y)) None) None)
 
-unfoldable pub pair_command : List ℕ → List ℕ → List ℕ → Command
-pair_command w a b = lookup (map (pair_with a b) pairs) Bad w
+unfoldable pub pair_command : List ℕ → List ℕ → List ℕ → Option Command
+pair_command w a b = lookup (map (pair_with a b) pairs) None w
 
 -- ---- a line
 
-unfoldable pub command_of : List (List ℕ) → Command
-command_of [] = Bad
-command_of (w ∷ []) = asked (plain_call w) Do (cond (same (bytes "dump") w) Dump Bad)
-command_of (w ∷ a ∷ []) = asked (argument_call w a) Do (cond (same (bytes "new") w) (with_number (number_of 65536 a) New Bad) Bad)
+unfoldable pub command_of : List (List ℕ) → Option Command
+command_of [] = None
+command_of (w ∷ []) = asked (plain_call w) (λ c. Some (Do c)) (cond (same (bytes "dump") w) (Some Dump) None)
+command_of (w ∷ a ∷ []) = asked (argument_call w a) (λ c. Some (Do c))
+    (cond (same (bytes "new") w) (with_number (number_of 65536 a) (λ n. Some (New n)) None) None)
 command_of (w ∷ a ∷ b ∷ []) =
     cond (same (bytes "set") w) (set_command a b)
     (cond (same (bytes "cut") w) (cut_command a (plain_call b)) (pair_command w a b))
-command_of (w ∷ a ∷ b ∷ c ∷ []) = cond (same (bytes "cut") w) (cut_command a (argument_call b c)) Bad
-command_of (w ∷ a ∷ b ∷ c ∷ d ∷ ws) = Bad
+command_of (w ∷ a ∷ b ∷ c ∷ []) = cond (same (bytes "cut") w) (cut_command a (argument_call b c)) None
+command_of (w ∷ a ∷ b ∷ c ∷ d ∷ ws) = None
 
-unfoldable pub line_command : List ℕ → Command
+unfoldable pub line_command : List ℕ → Option Command
 line_command l = command_of (words l)
 
 -- the payload of a line whose command has one: the bytes of the last word

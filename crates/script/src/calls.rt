@@ -1,76 +1,60 @@
 // The calls that can be cut, by their words.
-ghost use Rattle.std.specs.Prelude.{◌≡◌};
-ghost use Rattle.script.specs.declared.Asked.TheVariants.{Nothing};
+ghost use Rattle.std.specs.Prelude.{◌≡◌, None};
 ghost use Rattle.script.specs.Grammar.{lookup, payload_calls, number_calls, plain_call, argument_call};
 
-use crate::{Asked, Call};
-use text::Parsed;
-
-// The largest number where no other bound is said.
-pub const MOST: u64 = 4294967295;
+use crate::{Call, arguments};
 
 // A call by its name alone.
-pub fn plain_call(word: &[u8]) -> Asked
-    ensures { result ≡ plain_call word.now }
+#[tactic(auto, using(crate::proofs::Names::named), unfolding(crate::specs::Grammar::plain_call, crate::specs::Grammar::lookup))]
+pub fn plain_call(name: &str) -> Option<Call>
+    ensures { result ≡ plain_call name.now }
 {
-    match text::index(
-        b"open wipe mark list headfinish tailfinish close counts",
-        word,
-    ) {
-        0 => Asked::For(Call::Open),
-        1 => Asked::For(Call::Wipe),
-        2 => Asked::For(Call::Mark),
-        3 => Asked::For(Call::List),
-        4 => Asked::For(Call::HeadFinish),
-        5 => Asked::For(Call::TailFinish),
-        6 => Asked::For(Call::Close),
-        7 => Asked::For(Call::Counts),
-        _ => Asked::Nothing,
+    match name {
+        "open" => Some(Call::Open),
+        "wipe" => Some(Call::Wipe),
+        "mark" => Some(Call::Mark),
+        "list" => Some(Call::List),
+        "headfinish" => Some(Call::HeadFinish),
+        "tailfinish" => Some(Call::TailFinish),
+        "close" => Some(Call::Close),
+        "counts" => Some(Call::Counts),
+        _ => None,
     }
 }
 
 // A call whose argument is a payload, by its name.
-fn payload_call(word: &[u8]) -> Asked
-    ensures { result ≡ lookup payload_calls Nothing word.now }
+#[tactic(auto, using(crate::proofs::Names::named), unfolding(crate::specs::Grammar::lookup))]
+fn payload_call(name: &str) -> Option<Call>
+    ensures { result ≡ lookup payload_calls None name.now }
 {
-    match text::index(b"append write", word) {
-        0 => Asked::For(Call::Append),
-        1 => Asked::For(Call::Write),
-        _ => Asked::Nothing,
+    match name {
+        "append" => Some(Call::Append),
+        "write" => Some(Call::Write),
+        _ => None,
     }
 }
 
 // A call whose argument is a number, by its name.
-fn number_call(word: &[u8], v: u32) -> Asked
-    ensures { result ≡ lookup number_calls (λ v. Nothing) word.now v }
+#[tactic(auto, using(crate::proofs::Names::named), unfolding(crate::specs::Grammar::lookup))]
+fn number_call(name: &str, v: u32) -> Option<Call>
+    ensures { result ≡ lookup number_calls (λ v. None) name.now v }
 {
-    match text::index(b"begin head tail read", word) {
-        0 => Asked::For(Call::Begin(v)),
-        1 => Asked::For(Call::Head(v)),
-        2 => Asked::For(Call::Tail(v)),
-        3 => Asked::For(Call::Read(v)),
-        _ => Asked::Nothing,
+    match name {
+        "begin" => Some(Call::Begin(v)),
+        "head" => Some(Call::Head(v)),
+        "tail" => Some(Call::Tail(v)),
+        "read" => Some(Call::Read(v)),
+        _ => None,
     }
 }
 
 // A call by its name and its argument.
-pub fn argument_call(word: &[u8], argument: &[u8]) -> Asked
-    ensures { result ≡ argument_call word.now argument.now }
+#[tactic(auto, unfolding(crate::specs::Grammar::argument_call))]
+pub fn argument_call(name: &str, argument: &[u8]) -> Option<Call>
+    ensures { result ≡ argument_call name.now argument.now }
 {
-    let found = payload_call(word);
-    match found {
-        Asked::For(call) => {
-            if text::is_payload(argument) {
-                return Asked::For(call);
-            }
-            Asked::Nothing
-        }
-        Asked::Nothing => {
-            let parsed = text::number(argument, MOST);
-            match parsed {
-                Parsed::Number(v) => number_call(word, v as u32),
-                Parsed::Bad => Asked::Nothing,
-            }
-        }
+    if let Some(call) = payload_call(name) {
+        return text::is_payload(argument).then_some(call);
     }
+    number_call(name, arguments::number(argument)?)
 }

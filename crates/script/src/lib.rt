@@ -2,6 +2,7 @@
 
 #![tactic(auto)]
 
+mod arguments;
 mod calls;
 mod lines;
 mod pairs;
@@ -10,7 +11,7 @@ mod settings;
 pub use lines::{parse, payload};
 
 // A call that can be cut, with its number; the payload of Append and Write is the line's last word.
-#[derive(Clone, Copy)]
+#[derive(Clone, Copy, Debug, PartialEq, Eq)]
 pub enum Call {
     Open,
     Wipe,
@@ -28,17 +29,10 @@ pub enum Call {
     Counts,
 }
 
-// What words ask for, if it is such a call.
-#[derive(Clone, Copy)]
-pub enum Asked {
-    For(Call),
-    Nothing,
-}
-
-// A field of the state with its new value. A mode is its number, 0 to 9.
-#[derive(Clone, Copy)]
+// A field of the state with its new value.
+#[derive(Clone, Copy, Debug, PartialEq, Eq)]
 pub enum Setting {
-    Mode(u8),
+    Mode(table::Mode),
     E(u32),
     S(u8),
     N(u8),
@@ -53,9 +47,8 @@ pub enum Setting {
 }
 
 // What a line says.
-#[derive(Clone, Copy)]
+#[derive(Clone, Copy, Debug, PartialEq, Eq)]
 pub enum Command {
-    Bad,
     New(u32),
     Create(u32, u8),
     Do(Call),

@@ -3,94 +3,86 @@ ghost use Rattle.std.specs.Prelude.{◌≡◌, [], ◌∷◌, ◌*◌, ◌≤◌
 ghost use Rattle.std.proofs.lemmas.List.Edits.{sets};
 ghost use Rattle.script.specs.Grammar.{cut_command, command_of, line_command, line_payload};
 
-use crate::{Asked, Command, calls, pairs, settings};
-use text::Parsed;
+use crate::{Call, Command, arguments, calls, pairs, settings};
 
 // The longest image.
 const LONGEST: u64 = 65536;
 
 // The call cut after so many bytes.
-fn cut_command(count: &[u8], call: Asked) -> Command
+#[tactic(auto, unfolding(crate::specs::Grammar::cut_command))]
+fn cut_command(count: &[u8], call: Option<Call>) -> Option<Command>
     ensures { result ≡ cut_command count.now call }
 {
-    let parsed = text::number(count, calls::MOST);
-    let Parsed::Number(k) = parsed else {
-        return Command::Bad;
-    };
-    let Asked::For(cut) = call else {
-        return Command::Bad;
-    };
-    Command::Cut(k as u32, cut)
+    Some(Command::Cut(arguments::number(count)?, call?))
 }
 
-fn one_word(w: &[u8]) -> Command
-    ensures { result ≡ command_of (w.now ∷ []) }
+#[tactic(auto, using(crate::proofs::Names::named), unfolding(crate::specs::Grammar::command_of))]
+fn one_word(name: &str) -> Option<Command>
+    ensures { result ≡ command_of (name.now ∷ []) }
 {
-    let call = calls::plain_call(w);
-    if let Asked::For(done) = call {
-        return Command::Do(done);
+    if let Some(call) = calls::plain_call(name) {
+        return Some(Command::Do(call));
     }
-    if text::same(b"dump", w) {
-        return Command::Dump;
+    match name {
+        "dump" => Some(Command::Dump),
+        _ => None,
     }
-    Command::Bad
 }
 
-fn two_words(w: &[u8], a: &[u8]) -> Command
-    ensures { result ≡ command_of (w.now ∷ a.now ∷ []) }
+#[tactic(auto, using(crate::proofs::Names::named, text::proofs::Numerals::bounded), unfolding(crate::specs::Grammar::command_of))]
+fn two_words(name: &str, a: &[u8]) -> Option<Command>
+    ensures { result ≡ command_of (name.now ∷ a.now ∷ []) }
 {
-    let call = calls::argument_call(w, a);
-    if let Asked::For(done) = call {
-        return Command::Do(done);
+    if let Some(call) = calls::argument_call(name, a) {
+        return Some(Command::Do(call));
     }
-    if text::same(b"new", w) {
-        let parsed = text::number(a, LONGEST);
-        if let Parsed::Number(n) = parsed {
-            return Command::New(n as u32);
-        }
+    match name {
+        "new" => Some(Command::New(text::number(a, LONGEST)? as u32)),
+        _ => None,
     }
-    Command::Bad
 }
 
-fn three_words(w: &[u8], a: &[u8], b: &[u8]) -> Command
-    ensures { result ≡ command_of (w.now ∷ a.now ∷ b.now ∷ []) }
+#[tactic(auto, using(crate::proofs::Names::named, crate::proofs::Names::as_text), unfolding(crate::specs::Grammar::command_of))]
+fn three_words(name: &str, a: &[u8], b: &[u8]) -> Option<Command>
+    ensures { result ≡ command_of (name.now ∷ a.now ∷ b.now ∷ []) }
 {
-    if text::same(b"set", w) {
-        return settings::set_command(a, b);
+    match name {
+        "set" => settings::set_command(arguments::name(a), b),
+        "cut" => cut_command(a, calls::plain_call(arguments::name(b))),
+        _ => pairs::pair_command(name, a, b),
     }
-    if text::same(b"cut", w) {
-        return cut_command(a, calls::plain_call(b));
-    }
-    pairs::pair_command(w, a, b)
 }
 
-fn four_words(w: &[u8], a: &[u8], b: &[u8], c: &[u8]) -> Command
-    ensures { result ≡ command_of (w.now ∷ a.now ∷ b.now ∷ c.now ∷ []) }
+#[tactic(auto, using(crate::proofs::Names::named, crate::proofs::Names::as_text), unfolding(crate::specs::Grammar::command_of))]
+fn four_words(name: &str, a: &[u8], b: &[u8], c: &[u8]) -> Option<Command>
+    ensures { result ≡ command_of (name.now ∷ a.now ∷ b.now ∷ c.now ∷ []) }
 {
-    if text::same(b"cut", w) {
-        return cut_command(a, calls::argument_call(b, c));
+    match name {
+        "cut" => cut_command(a, calls::argument_call(arguments::name(b), c)),
+        _ => None,
     }
-    Command::Bad
 }
 
 // What a line says.
-pub fn parse(line: &[u8]) -> Command
+#[tactic(auto, using(crate::proofs::Saying::lines))]
+pub fn parse(line: &[u8]) -> Option<Command>
     ensures { result ≡ line_command line.now }
 {
-    let w = text::word(line, 0);
+    let name = arguments::name(text::word(line, 0));
     let a = text::word(line, 1);
     let b = text::word(line, 2);
     let c = text::word(line, 3);
     match text::word_count(line) {
-        1 => one_word(w),
-        2 => two_words(w, a),
-        3 => three_words(w, a, b),
-        4 => four_words(w, a, b, c),
-        _ => Command::Bad,
+        1 => one_word(name),
+        2 => two_words(name, a),
+        3 => three_words(name, a, b),
+        4 => four_words(name, a, b, c),
+        _ => None,
     }
 }
 
 // The payload of a line whose command has one, at the front of out; its count.
+#[tactic(auto, using(crate::proofs::Saying::payloads), unfolding(crate::specs::Grammar::line_payload))]
 pub fn payload(line: &[u8], out: &mut [u8]) -> usize
     requires { length line.now ≤ 2 * length out.old }
     ensures { (result ≡ length (line_payload line.now)) × (result ≤ length out.new) × (out.new ≡ sets out.old 0 (line_payload line.now)) }

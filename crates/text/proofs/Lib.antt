@@ -1,5 +1,4 @@
 pub mod Parting
-pub mod Alike
 pub mod Numerals
 pub mod Printing
 pub mod Nibbles

@@ -63,9 +63,16 @@ decimal_short n = short 20 n
 
 -- ---- in a buffer
 
+module _ (n : ℕ) where
+  pub few_length : n < 10 → length (decimal_of n) ≡ 1
+  few_length h = rw (decimal_few n h)
+
+  pub more_length : 10 ≤ n → n < 2 ^ 64 → length (decimal_of n) ≡ length (decimal_of (n / 10)) + 1
+  more_length h fits = rw (decimal_more n h fits) (length-append (decimal_of (n / 10)) (last_digit n))
+
 module _ (out : List ℕ) (at n : ℕ) where
-  pub put_few : n < 10 → (at + 1 ≡ at + length (decimal_of n)) × (set out at (48 + n % 10) ≡ sets out at (decimal_of n))
-  put_few h = rw (decimal_few n h) (refl, refl)
+  pub put_few : n < 10 → set out at (48 + n % 10) ≡ sets out at (decimal_of n)
+  put_few h = rw (decimal_few n h)
 
   pub put_more :
       (mid : List ℕ) (end : ℕ)
@@ -73,8 +80,7 @@ module _ (out : List ℕ) (at n : ℕ) where
       → n < 2 ^ 64
       → end ≡ at + length (decimal_of (n / 10))
       → mid ≡ sets out at (decimal_of (n / 10))
-      → (end + 1 ≡ at + length (decimal_of n)) × (set mid end (48 + n % 10) ≡ sets out at (decimal_of n))
-  put_more mid end h fits q e =
-      let long : length (decimal_of n) ≡ length (decimal_of (n / 10)) + 1 =
-      rw (decimal_more n h fits) (length-append (decimal_of (n / 10)) (last_digit n)) in
-      (omega arith, rw (decimal_more n h fits, sets_append (decimal_of (n / 10)) (last_digit n) out at, e, q))
+      → set mid end (48 + n % 10) ≡ sets out at (decimal_of n)
+  put_more mid end h fits q e = rw (decimal_more n h fits, sets_append (decimal_of (n / 10)) (last_digit n) out at, e, q)
+
+pub ruleset printing = (few_length, more_length, put_few, put_more, decimal_short)

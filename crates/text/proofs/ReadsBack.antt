@@ -9,8 +9,8 @@ use borrow.Author.Tests.{le-leb, ltb-true, ltb-false, ne_eqb}
 use lib.Dec.{ltb}
 use lib.ListN.{length, get_or, length-append, get_or-append}
 use Rattle.numbers.specs.Numbers.{Bytes}
-use Rattle.numbers.proofs.Tests.{both}
-use Rattle.text.specs.declared.Parsed.TheVariants.{Number}
+use Rattle.std.proofs.lemmas.Bool.{and_parts}
+use Rattle.std.specs.Prelude.{Some}
 use Rattle.text.specs.Numeral.{is_digit, digits, begins, value_from, number_of, digits_of, decimal_of}
 use Rattle.text.specs.Hex.{is_hex, nibble, pairs, bytes_of, hex_digit, hex_of}
 use Rattle.text.proofs.Numerals.{says}
@@ -28,7 +28,7 @@ digits_behind : (l : List ℕ) (b : ℕ) → digits l ≡ true → is_digit b �
 unfolding digits
 digits_behind [] b h t = rw t
 digits_behind (a ∷ l) b h t =
-    let q = both (is_digit a) (digits l) h in
+    let q = and_parts (is_digit a) (digits l) h in
     rw (q.0, digits_behind l b q.1 t)
 
 -- what a number's digits are: digits, which say it, and the first of them is a zero only where the number is
@@ -74,10 +74,10 @@ spelled (suc k) n h =
 
 -- ---- the number comes back
 
-pub number_reads_back : (bound n : ℕ) → n ≤ bound → n < 2 ^ 64 → number_of bound (decimal_of n) ≡ Number n
+pub number_reads_back : (bound n : ℕ) → n ≤ bound → n < 2 ^ 64 → number_of bound (decimal_of n) ≡ Some n
 number_reads_back bound n h fits =
     let f = spelled 19 n (omega arith) in
-    says bound (decimal_of n) f.start f.all (rw f.value h) ∙ ap Number f.value
+    says bound (decimal_of n) f.start f.all (rw f.value h) ∙ ap Some f.value
 
 -- ---- hexadecimal
 

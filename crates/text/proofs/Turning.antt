@@ -1,17 +1,16 @@
 -- Bits that go out of a CRC together: the low ones decide, and the others only move down.
-use Prim.Native.Nat.{ℕ, zero, suc, ◌+◌, ◌*◌, ◌/◌, ◌%◌, ◌^◌, ◌≤◌, ◌<◌}
+use Prim.Native.Nat.{ℕ, zero, suc, ◌+◌, ◌*◌, ◌/◌, ◌%◌, ◌^◌, ◌<◌}
 use mathlib.Core.Path.{◌≡◌, refl, sym, ap, ap₂, ◌∙◌}
 use mathlib.Core.Bool.{cond}
 use mathlib.Core.List.{List, [], ◌∷◌, map}
 use native.Mathlib.Nat.{add-zero, zero-add, mul-one, div-add-mod'}
-use native.Mathlib.Numerals.{add-one}
 use native.Mathlib.Omega.{arith}
 use lib.Arith.{bin_ind, digits_mod}
 use lib.Bits.{bit_xor, differ, xor_step, xor_shr, xor_shifted, xor_zero_l, xor_comm, shifted_half, shifted_even}
 use lib.Dec.{eqb}
-use lib.ListN.{length, get_or, drop, drop_of_length-le, get_or-map}
-use lib.Seq.{drop-cons}
-use Rattle.text.specs.Crc.{polynomial, shifted, turned, crc_byte, crc_from}
+use lib.ListN.{get_or, get_or-map}
+use Rattle.std.specs.List.{fold}
+use Rattle.text.specs.Crc.{polynomial, ones, shifted, turned, crc_byte, crc_from, crc_of}
 
 -- ---- exclusive or is associative
 
@@ -108,13 +107,13 @@ pub entry_at : (i : ℕ) → i < 16 → get_or half_turns i 0 ≡ turned 4 i
 unfolding turned
 entry_at i h = get_or-map (turned 4) (counted 0 16) i 0 ∙ ap (turned 4) (counted_at 0 16 i h ∙ zero-add i)
 
--- ---- from a place on
+-- ---- all of the bytes
 
-module _ (l : List ℕ) (i c : ℕ) where
-  pub crc_on : i < length l → crc_from c (drop i l) ≡ crc_from (crc_byte c (get_or l i 0)) (drop (i + 1) l)
-  unfolding crc_from
-  crc_on h = rw (add-one i, drop-cons l i 0 h)
+crc_runs : (c : ℕ) (l : List ℕ) → crc_from c l ≡ fold crc_byte c l
+unfolding crc_from
+crc_runs c [] = refl
+crc_runs c (b ∷ l) = crc_runs (crc_byte c b) l
 
-  pub crc_end : length l ≤ i → crc_from c (drop i l) ≡ c
-  unfolding crc_from
-  crc_end h = rw (drop_of_length-le l h)
+pub crc_fold : (l : List ℕ) → crc_of l ≡ bit_xor (fold crc_byte ones l) ones
+unfolding crc_of
+crc_fold l = ap (λ (c : ℕ). bit_xor c ones) (crc_runs ones l)

@@ -1,7 +1,5 @@
 -- Decimal numbers, as they are read and as they are printed.
-use Rattle.std.specs.Prelude.{ℕ, zero, suc, ◌+◌, ◌-◌, ◌*◌, ◌/◌, ◌%◌, Bool, true, false, cond, not, ◌&&◌, List, [], ◌∷◌, ◌++◌, ltb, leb, eqb}
-use Rattle.text.specs.declared.Parsed.{Parsed}
-use Rattle.text.specs.declared.Parsed.TheVariants.{Number, Bad}
+use Rattle.std.specs.Prelude.{ℕ, zero, suc, ◌+◌, ◌-◌, ◌*◌, ◌/◌, ◌%◌, Bool, true, false, cond, not, ◌&&◌, List, [], ◌∷◌, ◌++◌, ltb, leb, eqb, Option, Some, None}
 
 -- ---- reading
 
@@ -25,8 +23,8 @@ value_from v [] = v
 value_from v (b ∷ l) = value_from (v * 10 + (b - 48)) l
 
 -- the number that a word says, if it says one at or below a bound
-unfoldable pub number_of : ℕ → List ℕ → Parsed
-number_of bound w = cond (begins w && digits w && leb (value_from 0 w) bound) (Number (value_from 0 w)) Bad
+unfoldable pub number_of : ℕ → List ℕ → Option ℕ
+number_of bound w = cond (begins w && digits w && leb (value_from 0 w) bound) (Some (value_from 0 w)) None
 
 -- ---- printing
 

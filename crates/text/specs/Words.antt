@@ -1,5 +1,5 @@
 -- A line as text: its bytes, and its words.
-use Rattle.std.specs.Prelude.{ℕ, suc, Bool, true, false, cond, ◌&&◌, List, [], ◌∷◌, eqb, get_or}
+use Rattle.std.specs.Prelude.{ℕ, Bool, true, false, ◌&&◌, List, [], ◌∷◌, eqb, get_or}
 use Prim.Native.Char.{code}
 use Prim.Native.String.{String, [] as empty, ◌∷◌ as ◌then◌}
 
@@ -29,8 +29,3 @@ words (b ∷ l) = in_front (eqb b 32) b (words l)
 -- word i, empty where there are not so many
 abbrev pub word_at : List ℕ → ℕ → List ℕ
 word_at l i = get_or (words l) i []
-
--- where a word stands among names, their count where it is none of them
-unfoldable pub position : List (List ℕ) → List ℕ → ℕ
-position [] w = 0
-position (n ∷ ns) w = cond (same n w) 0 (suc (position ns w))

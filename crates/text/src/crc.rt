@@ -2,8 +2,6 @@
 ghost use Rattle.std.specs.Prelude.{◌≡◌, ◌<◌};
 ghost use Rattle.text.specs.Crc.{turned, crc_byte, crc_of};
 
-const ONES: u32 = 0xffffffff;
-
 // Entry i is what four bits make of i.
 const TABLE: [u32; 16] = [
     0x00000000, 0x1db71064, 0x3b6e20c8, 0x26d930ac, 0x76dc4190, 0x6b6b51f4, 0x4db26158, 0x5005713c,
@@ -18,6 +16,7 @@ fn entry(i: usize) -> u32
 }
 
 // Four bits go out at the low end.
+#[tactic(auto, using(crate::proofs::Turning::half_turn))]
 fn half(c: u32) -> u32
     ensures { result ≡ turned 4 c }
 {
@@ -25,20 +24,16 @@ fn half(c: u32) -> u32
 }
 
 // A byte goes in, and its eight bits go out.
+#[tactic(auto, using(crate::proofs::Turning::whole_turn))]
 fn step(c: u32, b: u8) -> u32
     ensures { result ≡ crc_byte c b }
 {
-    half(half(b as u32 ^ c))
+    half(half(u32::from(b) ^ c))
 }
 
+#[tactic(auto, using(crate::proofs::Turning::crc_fold))]
 pub fn crc32(bytes: &[u8]) -> u32
     ensures { result ≡ crc_of bytes.now }
 {
-    let mut c: u32 = ONES;
-    let mut i = 0;
-    while i < bytes.len() {
-        c = step(c, bytes[i]);
-        i += 1;
-    }
-    c ^ ONES
+    bytes.iter().fold(u32::MAX, |c, b| step(c, *b)) ^ u32::MAX
 }

@@ -10,11 +10,4 @@ mod words;
 pub use crc::crc32;
 pub use decimal::{number, put_decimal};
 pub use hex::{is_payload, put_hex, unhex};
-pub use words::{index, same, word, word_count};
-
-// What a word says as a number.
-#[derive(Clone, Copy)]
-pub enum Parsed {
-    Number(u64),
-    Bad,
-}
+pub use words::{word, word_count};

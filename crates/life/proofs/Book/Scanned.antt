@@ -1,7 +1,7 @@
 -- An image that keeps a sound book opens, and open finds the book: its metadata reads back, each listed slot has a header and its
 -- records, and every rule of open holds.
 use Prim.Native.Nat.{ℕ, ◌≤◌, ◌<◌}
-use mathlib.Core.Path.{◌≡◌, refl, sym, ap, ◌∙◌}
+use mathlib.Core.Path.{◌≡◌, sym, ap, ◌∙◌}
 use mathlib.Core.Bool.{true}
 use mathlib.Core.List.{List, [], ◌∷◌, ◌++◌, map}
 use native.Mathlib.Omega.{arith}
@@ -110,7 +110,7 @@ module _ (l : List ℕ) (b : Book) (keeps : Keeps l b) (sound : SoundBook b) whe
       let m : Metadata = metadata_in b in
       let split : metadata_bytes m ++ drop 84 l ≡ l = ap (λ (h : List ℕ). h ++ drop 84 l) (sym keeps.metadata) ∙ take-append-drop 84 l in
       let back = written_reads m (metadata_sound b sound) (drop 84 l) in
-      rw split at (read_facts (metadata_bytes m ++ drop 84 l) (record { number = 0; metadata = m }) (sym back) refl)
+      rw split at (read_facts (metadata_bytes m ++ drop 84 l) m back)
 
   keeps_opens : Opens l (metadata_in b) (extents b)
   unfolding extents_in

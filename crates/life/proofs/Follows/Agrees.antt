@@ -11,7 +11,7 @@ use Rattle.refusals.specs.Order.{when}
 use Rattle.refusals.proofs.First.{none_refuses, must_holds}
 use Rattle.numbers.proofs.Tests.{both}
 use Rattle.state.specs.declared.State.{State}
-use Rattle.counts.specs.declared.Counts.{Counts}
+use Rattle.counts.specs.Counts.{Report}
 use Rattle.counts.specs.Counts.{counts_number, counted, counts_of}
 use Rattle.walk.specs.Walk.{live_rule}
 use Rattle.read.specs.Read.{read_rules, number_of_read, reading, read_answer}
@@ -48,8 +48,8 @@ hand_agrees w n h =
     record {
       head = head;
       tail = tail;
-      counted = ap (λ (c : Counts). c.number) done;
-      live = ap (λ (c : Counts). c.live) done ∙ omega (arith, head, tail);
+      counted = ap (λ (c : Report). c.number) done;
+      live = ap (λ (c : Report). c.live) done ∙ omega (arith, head, tail);
     }
 
 -- ---- read

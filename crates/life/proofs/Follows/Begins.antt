@@ -5,7 +5,7 @@ use mathlib.Core.Bool.{Bool, true, false}
 use native.Mathlib.Omega.{arith}
 use lib.ListN.{length}
 use Rattle.refusals.specs.Order.{when}
-use Rattle.state.specs.declared.Answer.{Answer}
+use Rattle.state.specs.State.{Answer}
 use Rattle.state.specs.State.{answer}
 use Rattle.state.specs.Change.{zero_state}
 use Rattle.outcome.specs.Enter.{sized}

@@ -12,7 +12,7 @@ use lib.Seq.{take-take, drop-drop, get_or-drop}
 use Rattle.refusals.proofs.First.{first_passes}
 use Rattle.numbers.specs.Numbers.{part}
 use Rattle.record.specs.Record.{payload_at}
-use Rattle.record.specs.declared.Found.TheVariants.{Record}
+use Rattle.std.specs.Prelude.{Some}
 use Rattle.record.proofs.Facts.{says}
 use Rattle.metadata.specs.Layout.{slot_place}
 use Rattle.table.specs.Next.{next_of}
@@ -50,7 +50,7 @@ module _ {g : State} {l : List ℕ} {b : Book} {y : History}
   live_here : Live b x
   live_here = (omega (arith, r.head), omega (arith, tail_ends r))
 
-  found_there : record_at g l x ≡ Record (length (payload_in b x))
+  found_there : record_at g l x ≡ Some (length (payload_in b x))
   found_there = record_found r s.knows.tied x live_here
 
   -- ---- it answers 0

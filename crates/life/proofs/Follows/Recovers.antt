@@ -13,7 +13,7 @@ use Rattle.table.specs.declared.Mode.{Mode}
 use Rattle.table.specs.declared.Mode.TheVariants.{Opened, Wiped, Run}
 use Rattle.table.specs.declared.Step.{Step}
 use Rattle.table.specs.declared.Step.TheVariants.{Wipe, Mark}
-use Rattle.table.specs.declared.Next.TheVariants.{To}
+use Rattle.std.specs.Prelude.{Some}
 use Rattle.outcome.specs.Outcome.{Outcome}
 use Rattle.outcome.specs.Enter.{led_to, enter_number}
 use Rattle.outcome.specs.Rest.{rest_outcome}
@@ -65,11 +65,11 @@ module _ {f : Constants} (w : World) (i : Inv f w) where
       (step : Step) (m n : Mode)
       → w.held ≡ true
       → w.log.mode ≡ m
-      → next_of step m ≡ To n
+      → next_of step m ≡ Some n
       → enter_number step w.log (length w.image) ≡ 0
   enters_in step m n h e q = enter_is i.rests (stands_in i h) step ∙ rw (e, q)
 
-  leads_in : (step : Step) (m n : Mode) → w.log.mode ≡ m → next_of step m ≡ To n → led_to (next_of step w.log.mode) w.log.mode ≡ n
+  leads_in : (step : Step) (m n : Mode) → w.log.mode ≡ m → next_of step m ≡ Some n → led_to (next_of step w.log.mode) w.log.mode ≡ n
   leads_in step m n e q = rw (e, q)
 
   module _ (h : w.held ≡ true) where

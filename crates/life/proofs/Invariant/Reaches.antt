@@ -7,7 +7,7 @@ use native.Mathlib.Omega.{arith}
 use lib.ListN.{length, get_or, take}
 use lib.Seq.{length-take-le}
 use Rattle.record.specs.Record.{complete_at, payload_at}
-use Rattle.record.specs.declared.Found.TheVariants.{Record}
+use Rattle.std.specs.Prelude.{Some}
 use Rattle.extent.specs.Extent.{sizes, reached}
 use Rattle.extent.specs.declared.Reached.{Reached}
 use Rattle.extent.proofs.Change.{walk_at}
@@ -70,13 +70,13 @@ module _ {g : State} {l : List ℕ} {b : Book} {y : History} (r : Rests l b y) (
   place = 5 + sizes (take (x - (holder_in b x).start) (holder_in b x).payloads)
 
   stands :
-      (complete_at (holder_part l b x) place x b.version b.last ≡ Record (length (payload_in b x)))
+      (complete_at (holder_part l b x) place x b.version b.last ≡ Some (length (payload_in b x)))
       × (payload_at (holder_part l b x) place (length (payload_in b x)) ≡ payload_in b x)
   stands =
       let h = holder_holds.walk in
       rw h at (walk_at (holder_part l b x) 5 (holder_in b x).start b.version b.last x lies_there.low (rw h (lies_there.high live.1)))
 
-  pub record_found : record_at g l x ≡ Record (length (payload_in b x))
+  pub record_found : record_at g l x ≡ Some (length (payload_in b x))
   record_found =
       ap (λ (a : ℕ). complete_at (extent_at g l x) a x g.version.0 g.last.0) place_found
       ∙ rw (extent_found, version_is t, last_is t) stands.0

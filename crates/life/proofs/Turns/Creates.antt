@@ -7,10 +7,10 @@ use mathlib.Core.Bool.{true}
 use native.Mathlib.Nat.{zero-mul, add-zero}
 use native.Mathlib.Omega.{arith}
 use borrow.Author.Tests.{lt-ltb}
-use lib.ListN.{length, take, drop}
+use lib.ListN.{take, drop}
 use lib.Seq.{take_at, drop_at, take-take}
 use Rattle.numbers.specs.Numbers.{be32, zeros}
-use Rattle.extent.specs.Extent.{header_bytes, payloads, sizes}
+use Rattle.extent.specs.Extent.{header_bytes, sizes}
 use Rattle.metadata.specs.declared.Metadata.{Metadata}
 use Rattle.metadata.specs.Metadata.{sizes_ok, all_below, metadata_bytes}
 use Rattle.metadata.proofs.Facts.{Sizes, sizes_say}

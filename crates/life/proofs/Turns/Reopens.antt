@@ -6,7 +6,6 @@ use mathlib.Core.Bool.{true}
 use mathlib.Core.List.{List}
 use Rattle.stores.specs.Stores.{no_store}
 use Rattle.scan.specs.Scan.{Scan}
-use Rattle.scan.specs.Answers.{opening_of}
 use Rattle.state.specs.declared.State.{State}
 use Rattle.well.specs.Well.{well_formed}
 use Rattle.recovery.specs.Recovery.{open_answer, opened_state}
@@ -22,7 +21,6 @@ use Rattle.life.proofs.Turns.Done.{done}
 use Rattle.life.proofs.Turns.Moves.{Turn, turned, still}
 
 opened_tied : (b : Book) → Tied (opened_state (view_of b)) b
-unfolding opening_of
 opened_tied b = record { is = rw (starts_of_is b.write b.olds, tail_of b.write b.olds, place_of_is b.write b.olds) }
 
 module _ {l : List ℕ} {b : Book} {y : History} (r : Rests l b y) where

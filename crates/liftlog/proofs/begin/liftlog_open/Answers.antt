@@ -4,4 +4,4 @@ use Rattle.liftlog.proofs.begin.liftlog_open.Goals as goal
 
 pub returns : goal.returns
 unfolding named
-returns c = rw (c.mirrored.ensures, c.nothing.ensures, c.«open».ensures)
+returns c = rw (c.mirrored.ensures, c.zero.ensures, c.nothing.ensures, c.«open».ensures)

@@ -4,14 +4,14 @@ use Rattle.liftlog.proofs.Tells.{unknown_told, known_told}
 use Rattle.liftlog.proofs.Stored.{append_known, append_stored}
 use Rattle.liftlog.proofs.calls.liftlog_append.Goals as goal
 
-pub returns-then-state-ge-UNKNOWN : goal.returns-then-state-ge-UNKNOWN
-returns-then-state-ge-UNKNOWN c = unknown_told _ _ _ _ c.if-state-ge-UNKNOWN.true c.unknown.ensures
+pub returns-in_default : goal.returns-in_default
+returns-in_default c = unknown_told _ _ _ _ c.in_default.ensures.0 c.refused.ensures
 
 pub of_append-requires : goal.of_append-requires
-of_append-requires c = append_known _ _ _ _ _ c.append-a.ensures
+of_append-requires c = append_known _ _ _ _ _ c.append-ended.ensures
 
 pub returns : goal.returns
 unfolding does
 returns c =
-    let store = append_stored _ _ _ _ _ c.append-a.ensures _ c.of_append.ensures in
-    known_told _ _ _ _ _ _ _ _ c.if-state-ge-UNKNOWN.false c.log-log.ensures.0 c.append-a.ensures store c.mirrored.ensures
+    let store = append_stored _ _ _ _ _ c.append-ended.ensures _ c.of_append.ensures in
+    known_told _ _ _ _ _ _ _ _ c.in-Ok.ensures.0 c.in-Ok.ensures.1.0 c.append-ended.ensures store c.mirrored.ensures

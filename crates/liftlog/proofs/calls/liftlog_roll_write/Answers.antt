@@ -4,11 +4,11 @@ use Rattle.liftlog.proofs.Tells.{unknown_told, known_told}
 use Rattle.liftlog.proofs.Stored.{write_stored}
 use Rattle.liftlog.proofs.calls.liftlog_roll_write.Goals as goal
 
-pub returns-then-state-ge-UNKNOWN : goal.returns-then-state-ge-UNKNOWN
-returns-then-state-ge-UNKNOWN c = unknown_told _ _ _ _ c.if-state-ge-UNKNOWN.true c.unknown.ensures
+pub returns-in_default : goal.returns-in_default
+returns-in_default c = unknown_told _ _ _ _ c.in_default.ensures.0 c.refused.ensures
 
 pub returns : goal.returns
 unfolding does
 returns c =
-    let store = write_stored _ _ _ _ _ c.roll_write-a.ensures _ c.of_roll_write.ensures in
-    known_told _ _ _ _ _ _ _ _ c.if-state-ge-UNKNOWN.false c.log-log.ensures.0 c.roll_write-a.ensures store c.mirrored.ensures
+    let store = write_stored _ _ _ _ _ c.roll_write-ended.ensures _ c.of_roll_write.ensures in
+    known_told _ _ _ _ _ _ _ _ c.in-Ok.ensures.0 c.in-Ok.ensures.1.0 c.roll_write-ended.ensures store c.mirrored.ensures

@@ -1,13 +1,15 @@
 -- An unknown mode is refused; on a known one the counts of the log are shown.
-use borrow.Author.Tests.{lt-ltb, le-ltb}
 use Rattle.liftlog.specs.Shown.{told_report}
 use Rattle.liftlog.proofs.show.liftlog_counts.Goals as goal
 
-pub returns-then-state-ge-UNKNOWN : goal.returns-then-state-ge-UNKNOWN
+pub returns-in_default : goal.returns-in_default
 unfolding told_report
-returns-then-state-ge-UNKNOWN c =
-    rw (le-ltb _ 10 c.if-state-ge-UNKNOWN.true, c.unknown_number-number.ensures, c.sizes_ok.ensures)
+returns-in_default c = rw (c.refused.ensures, c.unknown.ensures, c.sizes_ok-sized.ensures, ← c.in_default.ensures.0)
 
-pub returns : goal.returns
+pub returns-in-Ok-count : goal.returns-in-Ok-count
 unfolding told_report
-returns c = rw (lt-ltb _ 10 c.if-state-ge-UNKNOWN.false, ← c.log.ensures.0, ← c.count-counted.ensures)
+returns-in-Ok-count c = rw (← c.in-Ok.ensures.0, ← c.in-Ok.ensures.1.0, ← c.in-Ok-count.ensures)
+
+pub returns-in-Err : goal.returns-in-Err
+unfolding told_report
+returns-in-Err c = rw (c.refused-in-Err.ensures, ← c.in-Ok.ensures.0, ← c.in-Ok.ensures.1.0, ← c.in-Err.ensures)

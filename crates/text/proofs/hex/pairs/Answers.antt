@@ -1,30 +1,11 @@
-use Rattle.std.proofs.Common.{sym, ◌∙◌, arith}
-use Rattle.text.proofs.Nibbles.{pairs_end, pairs_odd, pairs_on, pairs_first, pairs_second}
+use Rattle.std.proofs.Common.{sym, ◌∙◌, rules, tests}
+use Rattle.std.proofs.lemmas.Iterator.{YieldsList-from_slice}
+use Rattle.std.proofs.lemmas.Iterator.Search.{all_from_yields_List}
+use Rattle.text.specs.Hex.{is_hex}
+use Rattle.text.proofs.Nibbles.{pairs_even}
 use Rattle.text.proofs.hex.pairs.Goals as goal
 
-pub returns-then-word-next : goal.returns-then-word-next
-returns-then-word-next c =
-    let at = c.loop-i in
-    sym (at.invariant.1 ∙ pairs_odd _ at.i (omega arith) (omega arith))
-
-pub returns-else-is_hex : goal.returns-else-is_hex
-returns-else-is_hex c =
-    let at = c.loop-i in
-    sym (at.invariant.1 ∙ pairs_first _ at.i (omega arith) (sym c.is_hex.ensures ∙ c.if-is_hex.false))
-
-pub returns-else-is_hex-2 : goal.returns-else-is_hex-2
-returns-else-is_hex-2 c =
-    let at = c.loop-i in
-    sym (at.invariant.1 ∙ pairs_second _ at.i (omega arith) (sym c.is_hex-in-loop-i.ensures ∙ c.if-is_hex-2.false))
-
-pub loop-i-preserved : goal.loop-i-preserved
-loop-i-preserved c =
-    let at = c.loop-i in
-    let first = sym c.is_hex.ensures ∙ c.if-is_hex.true in
-    let second = sym c.is_hex-in-loop-i.ensures ∙ c.if-is_hex-2.true in
-    (omega arith, at.invariant.1 ∙ pairs_on _ at.i (omega arith) first second)
-
-pub returns : goal.returns
-returns c =
-    let at = c.loop-i in
-    sym (at.invariant.1 ∙ pairs_end _ at.i (omega arith))
+pub returns-then-word-eq0 : goal.returns-then-word-eq0
+returns-then-word-eq0 c =
+    all_from_yields_List (λ b. is_hex b) _ _ _ c.all.ensures.ran (YieldsList-from_slice c.args.word.now cc) (λ x b q k. search (rules, tests))
+    ∙ sym (pairs_even c.args.word.now c.if-word-eq0.true)

@@ -1,15 +1,8 @@
-use Rattle.std.proofs.Common.{sym, arith}
-use Rattle.std.proofs.Math.ListN.{length-set}
-use Rattle.text.proofs.Nibbles.{bytes_length, byte_put, bytes_put}
+use Rattle.std.proofs.Common.{◌≡◌, ◌/◌, length, sym, ◌∙◌, arith}
+use Rattle.text.proofs.Nibbles.{bytes_length, bytes_put}
 use Rattle.text.proofs.hex.unhex.Goals as goal
-
-pub loop-i-preserved : goal.loop-i-preserved
-loop-i-preserved c =
-    let at = c.loop-i in
-    let put = byte_put _ _ _ at.i at.invariant.1 _ _ (omega arith) c.nibble.ensures.0 c.nibble-in-loop-i.ensures.0 in
-    (omega arith, put, simp length-set (omega arith))
 
 pub returns : goal.returns
 returns c =
-    let at = c.loop-i in
-    (sym (bytes_length _), bytes_put _ _ _ at.i at.invariant.1 (omega arith))
+    let count : length c.as_chunks.result.0.now ≡ length c.args.word.now / 2 = c.as_chunks.ensures.front_len in
+    (count ∙ sym (bytes_length _), bytes_put _ _ _ c.loop-i.i c.loop-i.invariant (omega arith))

@@ -1,16 +1,12 @@
-use Rattle.std.proofs.Common.{arith}
-use Rattle.text.proofs.Parting.{count_space, count_other, count_end}
-use Rattle.text.proofs.words.word_count.Goals.{then-line-i-eq-SPACE, else-line-i-eq-SPACE}
+use Rattle.std.proofs.Common.{eqb, rules, tests}
+use Rattle.std.proofs.lemmas.Iterator.Consumers.{count_from_yields_List}
+use Rattle.std.proofs.lemmas.Iterator.Splits.{YieldsList-from_slice_split}
+use Rattle.text.proofs.Parting.{words_split}
 use Rattle.text.proofs.words.word_count.Goals as goal
 
-pub loop-i-preserved : goal.loop-i-preserved
-loop-i-preserved c =
-    let l = c.args.line.now in
-    let i = c.loop-i.i in
-    elim c.if-line-i-eq-SPACE.branch [
-      | then-line-i-eq-SPACE w ↦ omega (arith, count_space l i (omega arith) w.if-line-i-eq-SPACE.true)
-      | else-line-i-eq-SPACE w ↦ omega (arith, count_other l i (omega arith) w.if-line-i-eq-SPACE.false)
-    ]
-
 pub returns : goal.returns
-returns c = omega (arith, count_end c.args.line.now c.loop-i.i (omega arith))
+returns c =
+    let split = c.split.ensures in
+    rw (words_split c.args.line.now)
+    (count_from_yields_List _ _ c.count.ensures.ran
+    (YieldsList-from_slice_split _ (λ b. eqb b 32) c.args.line.now split.rest split.done split.closure (λ x r q k. search (rules, tests))))

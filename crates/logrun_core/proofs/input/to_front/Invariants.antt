@@ -1,9 +1,0 @@
--- The bytes move one by one.
-use Rattle.std.proofs.Common.{◌≤◌, ◌-◌}
-use Rattle.logrun_core.proofs.input.to_front.Given as goal
-
-abbrev pub invariant-loop-i : goal.invariant-loop-i
-invariant-loop-i l = l.i ≤ l.n
-
-abbrev pub decreases-loop-i : goal.decreases-loop-i
-decreases-loop-i l = l.n - l.i

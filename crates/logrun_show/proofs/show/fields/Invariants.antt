@@ -1,6 +1,0 @@
--- Number by number: what was put ends within the buffer.
-use Rattle.std.proofs.Common.{◌≤◌, length}
-use Rattle.logrun_show.proofs.show.fields.Given as goal
-
-abbrev pub invariant-loop-i : goal.invariant-loop-i
-invariant-loop-i g l = l.end ≤ length l.out
