@@ -1,4 +1,4 @@
--- Each contract leaves one outcome: it is an equation with a definition.
+-- Each contract leaves one outcome: it is an equation with a definition. And an answer is that of one `Result`.
 use Prim.Native.Nat.{◌-◌}
 use mathlib.Core.Path.{◌≡◌, refl, sym, ap, ◌∙◌}
 use mathlib.Core.Bool.{Bool, true, false}
@@ -8,9 +8,13 @@ use Rattle.refusals.specs.Order.{when}
 use Rattle.free.specs.Word.{count}
 use Rattle.state.specs.declared.State.{State}
 use Rattle.state.specs.State.{free_in}
+use Rattle.state.specs.Change.{zero_state}
+use Rattle.state.proofs.Once.{answered_once}
 use Rattle.counts.specs.Counts.{Report}
 use Rattle.counts.specs.Counts.{counts_number, counted, uncounted, counts_of, CountsContract}
-use Rattle.contracts.specs.Promises.{Refused, NoSecondOutcome, NoSecondAnswer, CountsNotInvented, RefusedCountsReportNothing}
+use Rattle.counts.proofs.Once.{reported_once}
+use Rattle.read.proofs.Once.{shown_once}
+use Rattle.contracts.specs.Promises.{Refused, NoSecondOutcome, NoSecondAnswer, NoSecondResult, CountsNotInvented, RefusedCountsReportNothing}
 
 one : {A : Type 0} (x r r' : A) → r ≡ x → r' ≡ x → r ≡ r'
 one x r r' p q = p ∙ sym q
@@ -27,6 +31,16 @@ no_second_answer = record {
   of_read = λ g l x r r' p q. one _ r r' p q;
   of_part = λ g l x a a' p q. one _ a a' p q;
   of_counts = λ g r r' p q. one _ r r' p q;
+}
+
+pub no_second_result : NoSecondResult
+no_second_result = record {
+  of_create = λ e s l r r' a a' p q. (answered_once zero_state r r' (one _ _ _ p.0 q.0), one _ a a' p.1 q.1);
+  of_open = λ l r r' p q. answered_once zero_state r r' (one _ _ _ p q);
+  of_step = λ c g k l r r' a a' p q. (answered_once g r r' (one _ _ _ p.answer q.answer), one _ a a' p.image q.image);
+  of_head_finish = λ g l r r' p q. answered_once g r r' (one _ _ _ p q);
+  of_read = λ g l x r r' p q. shown_once g r r' (one _ _ _ p q);
+  of_counts = λ g r r' p q. reported_once r r' (one _ _ _ p q);
 }
 
 -- ---- counts: done, or refused

@@ -5,8 +5,16 @@
 
 #![tactic(auto)]
 
-mod bench;
+mod desk;
 mod input;
 mod show;
 
 pub use input::drive;
+use steps::Log;
+
+// The state, and how many bytes the image has: the first so many of the space that goes with it.
+#[derive(Clone, Copy)]
+pub struct Bench {
+    pub log: Log,
+    pub len: usize,
+}

@@ -9,7 +9,8 @@ use steps::{Answer, Log};
 // The payload's place and length, and the payload.
 fn reading<W: Write>(out: &mut Output<W>, log: Log, image: &[u8], x: Lsn) -> io::Result<()> {
     let found = log.read(image, x);
-    write!(out, " {} {}", found.place, found.length)?;
+    logrun_show::field(out, found.place as u64)?;
+    logrun_show::field(out, found.length as u64)?;
     logrun_show::hex(out, log.read_part(image, x))
 }
 
@@ -19,7 +20,8 @@ fn view<W: Write>(out: &mut Output<W>, log: Log, image: &[u8], call: Call) -> io
         Call::Read(x) => reading(out, log, image, Lsn(x)),
         Call::Counts => {
             let counts = log.counts();
-            write!(out, " {} {}", counts.free, counts.live)
+            logrun_show::field(out, u64::from(counts.free))?;
+            logrun_show::field(out, u64::from(counts.live))
         }
         _ => Ok(()),
     }
@@ -32,10 +34,11 @@ fn shown<W: Write>(
     image: &[u8],
     command: Command,
 ) -> io::Result<()> {
+    let number = u64::from(done.number);
     match command {
-        Command::Create(..) | Command::Cut(..) => write!(out, " {}", done.number),
+        Command::Create(..) | Command::Cut(..) => logrun_show::field(out, number),
         Command::Do(call) => {
-            write!(out, " {}", done.number)?;
+            logrun_show::field(out, number)?;
             view(out, done.log, image, call)
         }
         Command::Dump => logrun_show::hex(out, image),

@@ -6,4 +6,4 @@ mod output;
 mod show;
 
 pub use output::Output;
-pub use show::{hex, state};
+pub use show::{field, hex, state};

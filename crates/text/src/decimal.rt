@@ -36,7 +36,7 @@ pub fn number(word: &[u8], bound: u64) -> Option<u64>
     Some(v)
 }
 
-// The digits of n at a place of out; the place behind them. The programs print by std; what this promises stands nowhere else.
+// The digits of n at a place of out; the place behind them.
 #[tactic(auto, using(crate::proofs::Printing::printing))]
 pub fn put_decimal(out: &mut [u8], at: usize, n: u64) -> usize
     requires { at + 20 ≤ length out.old }

@@ -61,7 +61,7 @@ fn digit(n: u8) -> u8
     if n < 10 { b'0' + n } else { b'a' + (n - 10) }
 }
 
-// Two digits for each byte, at a place of out; the place behind them. The programs print by std; what this promises stands nowhere else.
+// Two digits for each byte, at a place of out; the place behind them.
 #[tactic(auto, using(crate::proofs::Nibbles::spelling))]
 pub fn put_hex(out: &mut [u8], at: usize, src: &[u8]) -> usize
     requires { at + 2 * length src.now ≤ length out.old }

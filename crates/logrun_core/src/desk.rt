@@ -1,12 +1,11 @@
-// The log and its image, and what one line does to them.
+// The bench with its image, and what one line does to them.
 ghost use Rattle.std.specs.Prelude.{◌≤◌, length};
 
-use crate::show;
+use crate::{Bench, show};
 use logrun_show::Output;
 use script::Command;
 use std::io;
 use std::io::Write;
-use steps::Log;
 
 // The longest line, its end not counted.
 pub const LONGEST: usize = 4096;
@@ -14,22 +13,23 @@ pub const LONGEST: usize = 4096;
 // The longest image.
 const SPACE: usize = 65536;
 
-// The state, the image, which is the first `len` bytes of the space, since nothing here is on a heap, and where the answers go.
+// The bench, the space whose first bytes are its image, since nothing here is on a heap, and where the answers go.
 #[derive(Drop)]
-pub struct Bench<W> {
-    log: Log,
+pub struct Desk<W> {
+    bench: Bench,
     space: [u8; SPACE],
-    len: usize,
     out: Output<W>,
-    ghost fits: { len ≤ 65536 },
+    ghost fits: { bench.len ≤ 65536 },
 }
 
-impl<W: Write> Bench<W> {
-    pub fn new(to: W) -> Bench<W> {
-        Bench {
-            log: logrun_calls::zero_log(),
+impl<W: Write> Desk<W> {
+    pub fn new(to: W) -> Desk<W> {
+        Desk {
+            bench: Bench {
+                log: logrun_calls::zero_log(),
+                len: 0,
+            },
             space: [0; SPACE],
-            len: 0,
             out: Output::new(to),
         }
     }
@@ -41,12 +41,14 @@ impl<W: Write> Bench<W> {
             return;
         }
         self.space[0..len].fill(0);
-        self.len = len;
-        self.log = logrun_calls::zero_log();
+        self.bench = Bench {
+            log: logrun_calls::zero_log(),
+            len,
+        };
     }
 
     // A line that says nothing changes nothing.
-    fn bad(&mut self) -> io::Result<()> {
+    pub fn bad(&mut self) -> io::Result<()> {
         self.out.write_all(b"bad\n")
     }
 
@@ -57,9 +59,20 @@ impl<W: Write> Bench<W> {
         if let Command::New(n) = command {
             self.begin(n as usize);
         }
-        let done = logrun_calls::performed(self.log, &mut self.space[0..self.len], line, command);
-        self.log = done.log;
-        show::answer(&mut self.out, done, &self.space[..self.len], line, command)
+        let before = self.bench;
+        let image = &mut self.space[0..before.len];
+        let done = logrun_calls::performed(before.log, image, line, command);
+        self.bench = Bench {
+            log: done.log,
+            len: before.len,
+        };
+        show::answer(
+            &mut self.out,
+            done,
+            &self.space[..before.len],
+            line,
+            command,
+        )
     }
 
     // One that is too long says nothing.
